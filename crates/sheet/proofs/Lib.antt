@@ -1,0 +1,4 @@
+pub mod Keywords
+pub mod Reading
+pub mod RoundTrip
+pub mod Taking

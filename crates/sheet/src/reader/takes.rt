@@ -1,0 +1,112 @@
+// One entry after another.
+ghost use lib.ListN.{length};
+ghost use mathlib.Core.List.{List, []};
+ghost use mathlib.Core.Path.{_≡_};
+ghost use Rattle.plan.specs.declared.wire.Wire.{Wire as WireType};
+ghost use Rattle.sheet.specs.Sheet.{Taken, boards-taken, ended, entry-taken, line-taken, nothing, stated, wire-added, wire-taken};
+ghost use Rattle.sheet.specs.Tracks.{Took, Tracks};
+ghost use Rattle.std.specs.Results.{Cases};
+ghost use Rattle.text.specs.Views.{line-bytes};
+use super::Counts;
+use super::Reader;
+use crate::entry::Entry;
+use crate::entry::WireEntry;
+use crate::entry::read_entry;
+use crate::fault::SheetFault;
+use crate::fault::SheetFromPlan;
+use plan::ports::Ports;
+use plan::wire::board_count;
+use plan::wire::End;
+use plan::wire::Wire;
+use plan::wire::WireState;
+use text::line::Line;
+
+impl Reader {
+    // Nothing is taken yet.
+    pub fn new() -> Reader
+        ensures { λ r. ⌜ ((start : List WireType) → Tracks r start start nothing) ⌝ }
+    {
+        Reader { boards: None, wires: 0, ports: Ports::new() }
+    }
+
+    // The answer where the lines end before line `line`.
+    pub fn finish(&self, line: usize) -> Result<Counts, SheetFault>
+        ensures { λ r. ⌜ ((t : Taken) (table start : List WireType) → Tracks (now (self .entry)) table start t → r ≡ ended line t (t .boards)) ⌝ }
+    {
+        match self.boards {
+            Some(boards) => Ok(Counts { boards, wires: self.wires }),
+            None => Err(SheetFault::Misplaced(line)),
+        }
+    }
+}
+
+fn known_state(state: Option<WireState>, line: usize) -> Result<WireState, SheetFault>
+    ensures { λ r. ⌜ r ≡ stated line state ⌝ }
+{
+    match state {
+        Some(state) => Ok(state),
+        None => Err(SheetFault::UnknownState(line)),
+    }
+}
+
+impl Reader {
+    // Writes a wire behind those taken, if it fits the plan and the table has a record left.
+    fn add_wire(&mut self, count: u8, wire: Wire, line: usize, table: &mut [Wire]) -> Result<(), SheetFault>
+        ensures took { λ r. ⌜ ((t : Taken) (start : List WireType) → Tracks (now (self .entry)) (now (table .entry)) start t → Took r (now (self .exit)) (now (table .exit)) start (wire-added (length start) line count t wire)) ⌝ }
+        ensures refused { λ r. ⌜ Cases r (λ _. Unit {0}) (λ _. now (table .exit) ≡ now (table .entry)) ⌝ }
+    {
+        self.ports.admit(count, wire, line)?;
+        if self.wires >= table.len() {
+            return Err(SheetFault::TableFull(line));
+        }
+        table[self.wires] = wire;
+        self.wires += 1;
+        Ok(())
+    }
+
+    // Takes the board count.
+    fn take_boards(&mut self, number: u16, line: usize) -> Result<(), SheetFault>
+        ensures { λ r. ⌜ ((t : Taken) (table start : List WireType) → Tracks (now (self .entry)) table start t → Took r (now (self .exit)) table start (boards-taken line number t (t .boards))) ⌝ }
+    {
+        if self.boards.is_some() {
+            return Err(SheetFault::Misplaced(line));
+        }
+        self.boards = Some(board_count(number, line)?);
+        Ok(())
+    }
+
+    // Takes a wire.
+    fn take_wire(&mut self, entry: WireEntry, line: usize, table: &mut [Wire]) -> Result<(), SheetFault>
+        ensures took { λ r. ⌜ ((t : Taken) (start : List WireType) → Tracks (now (self .entry)) (now (table .entry)) start t → Took r (now (self .exit)) (now (table .exit)) start (wire-taken (length start) line entry t (t .boards))) ⌝ }
+        ensures refused { λ r. ⌜ Cases r (λ _. Unit {0}) (λ _. now (table .exit) ≡ now (table .entry)) ⌝ }
+    {
+        let Some(count) = self.boards else {
+            return Err(SheetFault::Misplaced(line));
+        };
+        let first = End::at(count, entry.first.board, entry.first.port, line)?;
+        let second = End::at(count, entry.second.board, entry.second.port, line)?;
+        let state = known_state(entry.state, line)?;
+        self.add_wire(count, Wire { first, second, state }, line, table)
+    }
+
+    // Takes what line `line` was found to say. A refusal leaves the table as it was.
+    fn take(&mut self, entry: Entry, line: usize, table: &mut [Wire]) -> Result<(), SheetFault>
+        ensures took { λ r. ⌜ ((t : Taken) (start : List WireType) → Tracks (now (self .entry)) (now (table .entry)) start t → Took r (now (self .exit)) (now (table .exit)) start (entry-taken (length start) line t entry)) ⌝ }
+        ensures refused { λ r. ⌜ Cases r (λ _. Unit {0}) (λ _. now (table .exit) ≡ now (table .entry)) ⌝ }
+    {
+        match entry {
+            Entry::Skip => Ok(()),
+            Entry::Boards(number) => self.take_boards(number, line),
+            Entry::Wires(wire) => self.take_wire(wire, line, table),
+        }
+    }
+
+    // Takes a line. A refusal leaves the table as it was.
+    pub fn take_line(&mut self, line: &Line, table: &mut [Wire]) -> Result<(), SheetFault>
+        ensures took { λ r. ⌜ ((t : Taken) (start : List WireType) → Tracks (now (self .entry)) (now (table .entry)) start t → Took r (now (self .exit)) (now (table .exit)) start (line-taken (length start) (now (line .entry) .number) t (line-bytes (now (line .entry))))) ⌝ }
+        ensures refused { λ r. ⌜ Cases r (λ _. Unit {0}) (λ _. now (table .exit) ≡ now (table .entry)) ⌝ }
+    {
+        let entry = read_entry(line)?;
+        self.take(entry, line.number, table)
+    }
+}
