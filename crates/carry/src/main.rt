@@ -1,13 +1,11 @@
 // The program: reads a wiring sheet and says what it holds, or why it is refused.
+use grammar::fault::SheetFaultDisplay;
 use plan::wire::End;
 use plan::wire::Wire;
 use plan::wire::WireState;
-use sheet::fault::SheetFault;
-use sheet::fault::SheetFaultDisplay;
+use sheet::counts::Counts;
 use sheet::read::SHEET_BYTES;
 use sheet::read::read_sheet;
-use sheet::reader::Counts;
-use sheet::state::state_name;
 use std::env;
 use std::error::AnyError;
 use std::fs::File;
@@ -70,7 +68,10 @@ fn carry(rt: &LibcRuntime, request: &Request) -> Result<(), AnyError> {
         Err(fault) => {
             let refusal = fault.refusal();
             let (layer, number, place) = (refusal.layer, refusal.number, refusal.place);
-            println!(rt, "refused: layer {layer}, number {number}, place {place} ({fault})")?;
+            println!(
+                rt,
+                "refused: layer {layer}, number {number}, place {place} ({fault})"
+            )?;
             Err("refused".into())
         }
     }
@@ -78,7 +79,11 @@ fn carry(rt: &LibcRuntime, request: &Request) -> Result<(), AnyError> {
 
 const NO_END: End = End { board: 0, port: 0 };
 
-const NO_WIRE: Wire = Wire { first: NO_END, second: NO_END, state: WireState::Dead };
+const NO_WIRE: Wire = Wire {
+    first: NO_END,
+    second: NO_END,
+    state: WireState::Dead,
+};
 
 // The sheet's bytes, one more at most than a sheet may have, so that any file will do.
 fn sheet_bytes(rt: &LibcRuntime, path: &str) -> io::Result<Vec<u8>> {
@@ -94,8 +99,11 @@ fn print_plan(rt: &LibcRuntime, counts: Counts, table: &[Wire]) -> Result<(), An
     for (number, wire) in table.iter().take(wires).enumerate() {
         let (first, second) = (wire.first, wire.second);
         let (a, p, b, q) = (first.board, first.port, second.board, second.port);
-        let state = state_name(wire.state);
-        println!(rt, "wire {number}: board {a} port {p}, board {b} port {q}, {state}")?;
+        let state = wire.state.name();
+        println!(
+            rt,
+            "wire {number}: board {a} port {p}, board {b} port {q}, {state}"
+        )?;
     }
     Ok(())
 }

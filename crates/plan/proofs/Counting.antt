@@ -14,7 +14,6 @@ use Rattle.std.proofs.shelf.Tests.{or-parts}
 use Rattle.std.proofs.shelf.Ways.{tells}
 use Rattle.plan.specs.Plan.{taken, Fits, AllFit, Good}
 use Rattle.plan.specs.Marks.{Marks, marked, entry-of}
-use Rattle.plan.specs.declared.wire.End.{End}
 use Rattle.plan.specs.declared.wire.Wire.{Wire}
 use Rattle.plan.proofs.Marking.{marks-none, marks-more}
 
@@ -60,11 +59,11 @@ held-more count before table w c l m f =
     let apart : j ≢ i = λ e. n .apart (omega arith) in
     let none-i : getD table i false ≡ false = m .told (w .first) (omega arith) (n .p₁) ∙ free .0 in
     let none-j : getD (set table i true) j false ≡ false =
-        getD-set-other table i j true false apart ∙ m .told (w .second) (omega arith) (n .p₂) ∙ free .1 in
+    getD-set-other table i j true false apart ∙ m .told (w .second) (omega arith) (n .p₂) ∙ free .1 in
     let at-i : held (set table i true) ≡ held table + 1 = held-set table i (omega arith) none-i in
     let long : length (set table i true) ≡ 1024 = length-set table i true ∙ l in
     let at-j : held (set (set table i true) j true) ≡ held (set table i true) + 1 =
-        held-set (set table i true) j (omega arith) none-j in
+    held-set (set table i true) j (omega arith) none-j in
     omega arith
 
 two-each : (count : ℕ) (before : List Wire) (table : List Bool) (ws : List Wire) → count ≤ 128 → length table ≡ 1024
@@ -75,8 +74,8 @@ two-each count before table (w ∷ ws) c l m a =
     let more = held-more count before table w c l m (a .0) in
     let marks = marks-more table before w (omega arith) (n .p₁) (omega arith) (n .p₂) m in
     let long : length (marked table w) ≡ 1024 =
-        length-set (set table (entry-of (w .first)) true) (entry-of (w .second)) true
-        ∙ length-set table (entry-of (w .first)) true ∙ l in
+    length-set (set table (entry-of (w .first)) true) (entry-of (w .second)) true
+    ∙ length-set table (entry-of (w .first)) true ∙ l in
     let rest = two-each count (before ++ w ∷ []) (marked table w) ws c long marks (a .1) in
     omega arith
 

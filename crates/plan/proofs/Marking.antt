@@ -1,15 +1,15 @@
 -- The table of taken ports, from no wire on.
-use Prim.Native.Nat.{ℕ, _+_, _*_, _<_, _≤_}
+use Prim.Native.Nat.{ℕ, _+_, _<_}
 use native.Mathlib.Omega.{arith}
-use mathlib.Core.Bool.{Bool, true, false, _&&_, _||_, or-assoc, or-false, or-true}
+use mathlib.Core.Bool.{Bool, true, false, _||_, or-assoc, or-false, or-true}
 use mathlib.Core.List.{List, [], _∷_, _++_}
-use mathlib.Core.Logic.{⊎-elim, inl, inr, _⊎_, _≢_}
-use mathlib.Core.Path.{_≡_, refl, sym, _∙_, ap}
+use mathlib.Core.Logic.{⊎-elim, _⊎_, _≢_}
+use mathlib.Core.Path.{_≡_, sym, _∙_, ap}
 use lib.Dec.{eqb}
 use lib.ListN.{length, getD, set, replicate, length-set}
 use lib.Seq.{getD-set-same, getD-set-other}
 use Rattle.std.proofs.shelf.Lists.{getD-replicate, getD-past, length-replicate}
-use Rattle.std.proofs.shelf.Tests.{cases-eq, cases-lt, and-from, eq-eqb, ne-eqb, cases-bool}
+use Rattle.std.proofs.shelf.Tests.{cases-eq, cases-lt, and-from, eq-eqb}
 use Rattle.std.proofs.shelf.Ways.{tells}
 use Rattle.plan.specs.Plan.{taken, same-end}
 use Rattle.plan.specs.Marks.{Marks, marked, entry-of}
@@ -19,8 +19,8 @@ use Rattle.plan.specs.declared.wire.Wire.{Wire}
 pub marks-none : (n : ℕ) → Marks (replicate n false) []
 marks-none n = record {
   told = λ e b p. ⊎-elim (getD-replicate n (entry-of e) false false)
-    (λ h. getD-past (replicate n false) (entry-of e) false (rw (length-replicate n false) h))
-    (cases-lt (entry-of e) n);
+      (λ h. getD-past (replicate n false) (entry-of e) false (rw (length-replicate n false) h))
+      (cases-lt (entry-of e) n);
 }
 
 -- one wire more at the end of the list
@@ -47,11 +47,11 @@ set-told : (table : List Bool) (d e : End) → entry-of d < length table → d .
 set-told table d e in-table p q =
     ⊎-elim
     (λ h. let s = entry-same d e p q h in
-      let lt : entry-of e < length table = omega arith in
-      rw (h, s, or-true (getD table (entry-of e) false)) (getD-set-same table (entry-of e) true false lt))
+    let lt : entry-of e < length table = omega arith in
+    rw (h, s, or-true (getD table (entry-of e) false)) (getD-set-same table (entry-of e) true false lt))
     (λ h. let s = entry-other d e h in
-      let ne : entry-of e ≢ entry-of d = λ k. h (sym k) in
-      rw (s, or-false (getD table (entry-of e) false)) (getD-set-other table (entry-of d) (entry-of e) true false ne))
+    let ne : entry-of e ≢ entry-of d = λ k. h (sym k) in
+    rw (s, or-false (getD table (entry-of e) false)) (getD-set-other table (entry-of d) (entry-of e) true false ne))
     (cases-eq (entry-of d) (entry-of e))
 
 -- the table with one wire more
@@ -60,8 +60,8 @@ pub marks-more : (table : List Bool) (ws : List Wire) (w : Wire)
     → Marks table ws → Marks (marked table w) (ws ++ w ∷ [])
 marks-more table ws w b₁ p₁ b₂ p₂ m = record {
   told = λ e b p.
-    set-told (set table (entry-of (w .first)) true) (w .second) e (rw (length-set table (entry-of (w .first)) true) b₂) p₂ p
-    ∙ ap (λ t. t || same-end (w .second) e) (set-told table (w .first) e b₁ p₁ p ∙ ap (λ t. t || same-end (w .first) e) (m .told e b p))
-    ∙ or-assoc (taken ws e) (same-end (w .first) e) (same-end (w .second) e)
-    ∙ sym (taken-push ws w e);
+      set-told (set table (entry-of (w .first)) true) (w .second) e (rw (length-set table (entry-of (w .first)) true) b₂) p₂ p
+      ∙ ap (λ t. t || same-end (w .second) e) (set-told table (w .first) e b₁ p₁ p ∙ ap (λ t. t || same-end (w .first) e) (m .told e b p))
+      ∙ or-assoc (taken ws e) (same-end (w .first) e) (same-end (w .second) e)
+      ∙ sym (taken-push ws w e);
 }

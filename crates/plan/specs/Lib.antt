@@ -2,3 +2,4 @@ pub mod Answers
 pub mod Faults
 pub mod Marks
 pub mod Plan
+pub mod States

@@ -4,7 +4,7 @@ ghost use Rattle.plan.specs.Faults.{plan-refusal};
 
 // A count or a wire that a plan cannot take. Each case holds the place of the refusal: where the
 // count or the wire came from, as its caller numbers it.
-#[derive(Clone, Copy, PartialEq, Debug)]
+#[derive(Clone, Copy)]
 pub enum PlanFault {
     // The board count is not 1 to 128, or an end names a board or a port that is not there.
     OutOfRange(usize),
@@ -33,6 +33,10 @@ impl PlanFault {
             PlanFault::OneBoard(place) => (10, place),
             PlanFault::PortTaken(place) => (11, place),
         };
-        Refusal { layer, number, place }
+        Refusal {
+            layer,
+            number,
+            place,
+        }
     }
 }

@@ -1,4 +1,3 @@
-pub mod Keywords
 pub mod Reading
 pub mod RoundTrip
 pub mod Taking

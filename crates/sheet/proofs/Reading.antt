@@ -1,16 +1,16 @@
 -- The reader between two lines: what is left to be read gives the answer to the whole.
-use Prim.Native.Nat.{ℕ, _+_, _<_, _≤_}
+use Prim.Native.Nat.{ℕ, _+_, _≤_}
+use native.Mathlib.Omega.{arith}
 use mathlib.Core.List.{List, [], _∷_}
 use mathlib.Core.Path.{_≡_, refl, sym, ap, _∙_}
 use denote.Ref.{now}
 use lib.ListN.{length}
-use Rattle.std.proofs.shelf.Tests.{lt-ltb, le-ltb}
+use Rattle.std.proofs.shelf.Ways.{tells}
 use Rattle.std.specs.declared.result.Result.the-variants.{Ok, Err}
 use Rattle.plan.specs.declared.wire.Wire.{Wire}
-use Rattle.sheet.specs.Sheet.{Taken, ended, line-taken, lines-read, nothing, sheet-read}
+use Rattle.sheet.specs.Sheet.{Taken, ended, line-taken, lines-read, nothing, sheet-read, size-check}
 use Rattle.sheet.specs.Tracks.{Tracks}
-use Rattle.sheet.specs.declared.fault.SheetFault.{SheetFault}
-use Rattle.sheet.specs.declared.fault.SheetFault.the-variants.{TooLong}
+use Rattle.grammar.specs.declared.fault.SheetFault.{SheetFault}
 use Rattle.sheet.specs.declared.reader.Reader.{Reader}
 use Rattle.text.specs.Text as text
 use Rattle.text.specs.Views.{left}
@@ -36,17 +36,20 @@ pub read-stop : (room n : ℕ) (l : List ℕ) (ls : List (List ℕ)) (t : Taken)
 unfolding lines-read
 read-stop room n l ls t f e = rw (e, lines-read)
 
-pub sheet-long : (room : ℕ) (sheet : List ℕ) → 32768 < length sheet → sheet-read room sheet ≡ (nothing, Err TooLong)
+pub sheet-long : (room : ℕ) (sheet : List ℕ) (f : SheetFault) → size-check sheet ≡ Err f → sheet-read room sheet ≡ (nothing, Err f)
 unfolding sheet-read
-sheet-long room sheet h = rw (lt-ltb 32768 (length sheet) h)
+sheet-long room sheet f e = rw (e, sheet-read)
 
-pub sheet-short : (room : ℕ) (sheet : List ℕ) → length sheet ≤ 32768
+pub sheet-short : (room : ℕ) (sheet : List ℕ) → size-check sheet ≡ Ok tt
     → sheet-read room sheet ≡ lines-read room 1 (text.lines sheet) nothing
 unfolding sheet-read
-sheet-short room sheet h = rw (le-ltb 32768 (length sheet) h)
+sheet-short room sheet e = rw (e, sheet-read)
+
+pub size-bound : (sheet : List ℕ) → size-check sheet ≡ Ok tt → length sheet ≤ 32768
+size-bound sheet e = grind (arith, tells)
 
 module _ (sheet : List ℕ) (lines : Lines) (reader : Reader) (table start : List Wire)
-    (short : length sheet ≤ 32768) (u : Underway sheet lines reader table start) where
+    (short : size-check sheet ≡ Ok tt) (u : Underway sheet lines reader table start) where
   -- what is left gives the answer to the whole sheet
   pub from-here : sheet-read (length start) sheet ≡ lines-read (length start) (lines .number + 1) (left lines) (u .taken)
   from-here = sheet-short (length start) sheet short ∙ sym (u .rest)

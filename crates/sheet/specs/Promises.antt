@@ -9,8 +9,8 @@ use Rattle.plan.specs.Plan.{Good}
 use Rattle.plan.specs.declared.wire.Wire.{Wire}
 use Rattle.sheet.specs.Sheet.{filled}
 use Rattle.sheet.specs.Writing.{written}
-use Rattle.sheet.specs.declared.fault.SheetFault.{SheetFault}
-use Rattle.sheet.specs.declared.reader.Counts.{Counts}
+use Rattle.grammar.specs.declared.fault.SheetFault.{SheetFault}
+use Rattle.sheet.specs.declared.counts.Counts.{Counts}
 
 -- where the sheet is the written form of a good plan, and the table has room for its wires, the
 -- answer is the plan's board count and number of wires, and the table then begins with its wires

@@ -12,13 +12,13 @@ use Rattle.plan.specs.Answers.{bind, lift}
 use Rattle.plan.specs.Plan.{admitted, counted, end-at}
 use Rattle.plan.specs.declared.wire.Wire.{Wire}
 use Rattle.plan.specs.declared.wire.WireState.{WireState}
-use Rattle.sheet.specs.Entries.{entry-of}
-use Rattle.sheet.specs.declared.entry.Entry.{Entry}
-use Rattle.sheet.specs.declared.entry.Entry.the-variants.{Skip, Boards, Wires}
-use Rattle.sheet.specs.declared.entry.WireEntry.{WireEntry}
-use Rattle.sheet.specs.declared.fault.SheetFault.{SheetFault}
-use Rattle.sheet.specs.declared.fault.SheetFault.the-variants.{TooLong, Misplaced, InPlan, UnknownState, TableFull}
-use Rattle.sheet.specs.declared.reader.Counts.{Counts}
+use Rattle.grammar.specs.Entries.{entry-of}
+use Rattle.grammar.specs.declared.entry.Entry.{Entry}
+use Rattle.grammar.specs.declared.entry.Entry.the-variants.{Skip, Boards, Wires}
+use Rattle.grammar.specs.declared.entry.WireEntry.{WireEntry}
+use Rattle.grammar.specs.declared.fault.SheetFault.{SheetFault}
+use Rattle.grammar.specs.declared.fault.SheetFault.the-variants.{TooLong, Misplaced, InPlan, UnknownState, TableFull}
+use Rattle.sheet.specs.declared.counts.Counts.{Counts}
 use Rattle.text.specs.Text.{lines}
 
 -- what the lines so far gave: the board count, if it came, and the wires in their order
@@ -73,8 +73,12 @@ lines-read room n [] t = (t, ended n t (t .boards))
 lines-read room n (l ∷ ls) t = elim (line-taken room n t l) [ Ok u ↦ lines-read room (n + 1) ls u | Err f ↦ (t, Err f) ]
 
 -- a sheet has at most 32,768 bytes
+abbrev pub size-check : List ℕ → Result (Unit {0}) SheetFault
+size-check sheet = cond (ltb 32768 (length sheet)) (Err TooLong) (Ok tt)
+
+-- what is taken of a sheet, and the answer
 unfoldable pub sheet-read : ℕ → List ℕ → Taken × Result Counts SheetFault
-sheet-read room sheet = cond (ltb 32768 (length sheet)) (nothing, Err TooLong) (lines-read room 1 (lines sheet) nothing)
+sheet-read room sheet = elim (size-check sheet) [ Ok _ ↦ lines-read room 1 (lines sheet) nothing | Err f ↦ (nothing, Err f) ]
 
 -- a table that begins with the wires taken, its other records as they were
 abbrev pub filled : List Wire → List Wire → List Wire

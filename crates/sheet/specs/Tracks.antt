@@ -1,5 +1,5 @@
 -- How the reader's own tables follow what the definition has taken.
-use Prim.Native.Nat.{ℕ, _≤_}
+use Prim.Native.Nat.{_≤_}
 use mathlib.Core.List.{List}
 use mathlib.Core.Path.{_≡_}
 use lib.ListN.{length}
@@ -8,7 +8,7 @@ use Rattle.std.specs.declared.result.Result.the-variants.{Ok, Err}
 use Rattle.plan.specs.Marks.{Marks}
 use Rattle.plan.specs.declared.wire.Wire.{Wire}
 use Rattle.sheet.specs.Sheet.{Taken, filled}
-use Rattle.sheet.specs.declared.fault.SheetFault.{SheetFault}
+use Rattle.grammar.specs.declared.fault.SheetFault.{SheetFault}
 use Rattle.sheet.specs.declared.reader.Reader.{Reader}
 
 -- the reader and the table, which was `start` at first, hold what was taken

@@ -2,16 +2,9 @@
 use Prim.Native.Nat.{ℕ}
 use mathlib.Core.List.{List, [], _∷_, map}
 use lib.Chars.{codes}
+use Rattle.plan.specs.States.{state-word}
 use Rattle.plan.specs.declared.wire.Wire.{Wire}
-use Rattle.plan.specs.declared.wire.WireState.{WireState}
-use Rattle.plan.specs.declared.wire.WireState.the-variants.{Whole, OutOnly, BackOnly, Dead}
 use Rattle.text.specs.Writing.{digits, ended-lines, spaced}
-
-abbrev pub state-word : WireState → List ℕ
-state-word Whole = codes "ok"
-state-word OutOnly = codes "out"
-state-word BackOnly = codes "back"
-state-word Dead = codes "dead"
 
 abbrev pub boards-words : ℕ → List (List ℕ)
 boards-words count = codes "boards" ∷ digits count ∷ []

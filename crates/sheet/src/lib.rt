@@ -1,6 +1,4 @@
 // Wiring sheets: from the bytes of a sheet to the table of its wires.
-pub mod entry;
-pub mod fault;
+pub mod counts;
 pub mod read;
-pub mod reader;
-pub mod state;
+mod reader;

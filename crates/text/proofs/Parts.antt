@@ -1,9 +1,9 @@
 -- Parts of a text: from one place up to and without another.
-use Prim.Native.Nat.{ℕ, _+_, _-_, _<_, _≤_, min}
+use Prim.Native.Nat.{ℕ, _+_, _-_, _≤_, min}
 use native.Mathlib.Omega.{arith}
-use mathlib.Core.List.{List, [], _∷_}
+use mathlib.Core.List.{List, []}
 use mathlib.Core.Logic.{⊎-elim}
-use mathlib.Core.Path.{_≡_, refl, sym, _∙_, ap}
+use mathlib.Core.Path.{_≡_, sym, _∙_, ap}
 use lib.ListN.{length, take, drop, length-take, length-drop}
 use lib.Seq.{take-all, take-take, drop-drop}
 use Rattle.std.proofs.shelf.Lists.{drop-take, nil-from-length}
@@ -19,8 +19,8 @@ part-min text start end =
     ⊎-elim
     (λ h. let m : min end (length text) ≡ end = omega arith in rw m)
     (λ h. let m : min end (length text) ≡ length text = omega arith in
-      let d = length-drop start text in
-      rw m (take-all (length text - start) (drop start text) (omega arith) ∙ sym (take-all (end - start) (drop start text) (omega arith))))
+    let d = length-drop start text in
+    rw m (take-all (length text - start) (drop start text) (omega arith) ∙ sym (take-all (end - start) (drop start text) (omega arith))))
     (cases-lt end (length text))
 
 pub part-none : (text : List ℕ) (start end : ℕ) → min end (length text) ≤ start → part text start end ≡ []

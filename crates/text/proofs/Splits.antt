@@ -1,9 +1,9 @@
 -- Splitting a list piece by piece, and a line word by word.
 use Prim.Native.Nat.{ℕ, suc, _+_, _-_, _<_, _≤_}
 use native.Mathlib.Nat.{add-assoc}
-use native.Mathlib.Numerals.{add-one, one-add}
+use native.Mathlib.Numerals.{one-add}
 use native.Mathlib.Omega.{arith}
-use mathlib.Core.Bool.{Bool, true, false, cond, not}
+use mathlib.Core.Bool.{true, false, not}
 use mathlib.Core.List.{List, [], _∷_}
 use mathlib.Core.Logic.{_⊎_, ⊎-elim}
 use mathlib.Core.Path.{_≡_, refl, sym, _∙_, ap}
@@ -12,6 +12,7 @@ use lib.ListN.{length, getD, take, drop, length-drop}
 use lib.Seq.{drop-drop, drop-length}
 use Rattle.std.proofs.shelf.Lists.{drop-all, drop-more, take-rest}
 use Rattle.std.proofs.shelf.Sums.{leading-le-length}
+use Rattle.text.specs.Cuts.{LineCut}
 use Rattle.text.specs.Views.{part}
 use Rattle.text.proofs.Parts.{length-part, part-drop, part-part}
 use Rattle.std.specs.shelf.Lists.{leading}
@@ -73,7 +74,7 @@ words-skip (b ∷ bs) =
     let ih = words-skip bs in
     ⊎-elim
     (λ e. let k : leading space (b ∷ bs) ≡ suc (leading space bs) = rw e (one-add (leading space bs)) in
-      rw k (words-space b bs e ∙ ih))
+    rw k (words-space b bs e ∙ ih))
     (λ e. let k : leading space (b ∷ bs) ≡ 0 = rw e in rw k)
     (cases-bool (eqb b 32))
 
@@ -111,7 +112,7 @@ line-bound text at n h e =
     omega (arith, leading-le-length (other 10) (part text at (length text)), length-part text at (length text))
 
 -- the line that begins at a place, and where the next begins
-pub lines-line : (text : List ℕ) (at n next : ℕ) → at < length text → n ≡ leading (other 10) (part text at (length text))
+lines-line : (text : List ℕ) (at n next : ℕ) → at < length text → n ≡ leading (other 10) (part text at (length text))
     → ((at + n < length text) × (next ≡ at + n + 1)) ⊎ ((length text ≤ at + n) × (next ≡ at + n))
     → lines (drop at text) ≡ part text at (at + n) ∷ lines (drop next text)
 lines-line text at n next h e ways =
@@ -119,14 +120,25 @@ lines-line text at n next h e ways =
     let n-is : n ≡ leading (other 10) (drop at text) = e ∙ ap (leading (other 10)) whole in
     let size : at + n - at ≡ n = omega arith in
     let behind : drop (suc n) (drop at text) ≡ drop next text =
-        drop-drop (suc n) at text ∙
-        ⊎-elim {C = drop (at + suc n) text ≡ drop next text}
-        (λ w. let k : at + suc n ≡ next = omega arith in ap (λ j. drop j text) k)
-        (λ w. drop-all (at + suc n) text (omega arith) ∙ sym (drop-all next text (omega arith)))
-        ways in
+    drop-drop (suc n) at text ∙
+    ⊎-elim {C = drop (at + suc n) text ≡ drop next text}
+    (λ w. let k : at + suc n ≡ next = omega arith in ap (λ j. drop j text) k)
+    (λ w. drop-all (at + suc n) text (omega arith) ∙ sym (drop-all next text (omega arith)))
+    ways in
     let cons : drop at text ≡ getD text at 0 ∷ drop (at + 1) text = drop-more text at 0 h in
     let piece : Piece 10 (drop at text) = rw cons (split-piece 10 (getD text at 0) (drop (at + 1) text)) in
     rw (size, ← behind, n-is) piece
+
+pub line-cut : (text : List ℕ) (at n next : ℕ) → at < length text → n ≡ leading (other 10) (part text at (length text))
+    → ((at + n < length text) × (next ≡ at + n + 1)) ⊎ ((length text ≤ at + n) × (next ≡ at + n))
+    → LineCut text at (at + n) next
+line-cut text at n next h e ways =
+    let bound = line-bound text at n h e in
+    record {
+      line = lines-line text at n next h e ways;
+      onward = ⊎-elim (λ w. omega arith) (λ w. omega arith) ways;
+      within = ⊎-elim (λ w. omega arith) (λ w. omega arith) ways;
+    }
 
 -- a line without words
 pub words-none : (xs : List ℕ) → leading space xs ≡ length xs → words xs ≡ []
@@ -136,13 +148,13 @@ words-none xs e = words-skip xs ∙ ap words (ap (λ k. drop k xs) e ∙ drop-le
 -- the first word of a line, behind the spaces in front
 pub words-next : (xs : List ℕ) → leading space xs < length xs
     → words xs ≡ take (leading (other 32) (drop (leading space xs) xs)) (drop (leading space xs) xs)
-      ∷ words (drop (leading (other 32) (drop (leading space xs) xs)) (drop (leading space xs) xs))
+    ∷ words (drop (leading (other 32) (drop (leading space xs) xs)) (drop (leading space xs) xs))
 words-next [] h = absurd (omega arith)
 words-next (b ∷ bs) h =
     ⊎-elim
     (λ e. let k : leading space (b ∷ bs) ≡ suc (leading space bs) = rw e (one-add (leading space bs)) in
-      let ih = words-next bs (omega arith) in
-      rw k (words-space b bs e ∙ ih))
+    let ih = words-next bs (omega arith) in
+    rw k (words-space b bs e ∙ ih))
     (λ e. let k : leading space (b ∷ bs) ≡ 0 = rw e in rw k (words-word b bs e))
     (cases-bool (eqb b 32))
 
@@ -162,10 +174,10 @@ word-next text left at end skipped size is e h s =
     let len : length left ≡ length (part text at end) = ap length is in
     let next : words left ≡ take size (drop skipped left) ∷ words (drop size (drop skipped left)) = rw (s′, e) (words-next left (omega arith)) in
     let one : take size (drop skipped left) ≡ part text (at + skipped) (at + skipped + size) =
-        ap (λ l. take size (drop skipped l)) is ∙ part-part text at end skipped size (omega arith) in
+    ap (λ l. take size (drop skipped l)) is ∙ part-part text at end skipped size (omega arith) in
     let two : drop size (drop skipped left) ≡ part text (at + skipped + size) end =
-        ap (λ l. drop size (drop skipped l)) is ∙ drop-drop size skipped (part text at end)
-        ∙ part-drop text at end (skipped + size) (omega arith) ∙ ap (λ j. part text j end) (sym (add-assoc at skipped size)) in
+    ap (λ l. drop size (drop skipped l)) is ∙ drop-drop size skipped (part text at end)
+    ∙ part-drop text at end (skipped + size) (omega arith) ∙ ap (λ j. part text j end) (sym (add-assoc at skipped size)) in
     let bound : at + skipped + size ≤ length text = omega (arith, length-part text at end) in
     record {
       word = rw (← is, ← one, ← two) next;

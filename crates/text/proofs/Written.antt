@@ -1,12 +1,12 @@
 -- What is written is read back: lines, words and numbers.
 use Prim.Native.Nat.{ℕ, zero, suc, _+_, _<_, _≤_}
 use native.Mathlib.Omega.{arith}
-use mathlib.Core.Bool.{Bool, true, false, not, _&&_}
+use mathlib.Core.Bool.{Bool, true, not, _&&_}
 use mathlib.Core.List.{List, [], _∷_, _++_}
-use mathlib.Core.Path.{_≡_, refl, sym, ap, _∙_}
-use lib.Dec.{eqb, leb, ltb}
+use mathlib.Core.Path.{_≡_, refl, ap, _∙_}
+use lib.Dec.{eqb, leb}
 use lib.ListN.{length, length-append}
-use Rattle.std.proofs.shelf.Tests.{and-parts, and-from, not-true, ltb-true, leb-true, eqb-true}
+use Rattle.std.proofs.shelf.Tests.{and-parts, and-from, not-true, leb-true, eqb-true}
 use Rattle.std.proofs.shelf.Ways.{decides-below-and, tells}
 use Rattle.std.specs.declared.result.Result.the-variants.{Ok}
 use Rattle.text.specs.Text.{all, digit, lines, nonempty, numeral, onto, other, plain, printable, split, value, words}

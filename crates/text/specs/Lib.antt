@@ -1,3 +1,4 @@
+pub mod Cuts
 pub mod Text
 pub mod Views
 pub mod Writing

@@ -5,7 +5,7 @@ use mathlib.Core.List.{List}
 use lib.ListN.{take, drop}
 use denote.Ref.{now}
 use Rattle.std.specs.declared.result.Result.{Result}
-use Rattle.std.specs.declared.result.Result.the-variants.{Ok, Err}
+use Rattle.std.specs.declared.result.Result.the-variants.{Err}
 use Rattle.text.specs.Text.{all, digit, letter, lines, numeral}
 use Rattle.text.specs.declared.fault.WordFault.{WordFault}
 use Rattle.text.specs.declared.fault.WordFault.the-variants.{BadNumber}

@@ -9,7 +9,7 @@ abbrev pub digits : ℕ → List ℕ
 digits n =
     cond (ltb n 10) ((48 + n) ∷ [])
     (cond (ltb n 100) ((48 + n / 10) ∷ (48 + n % 10) ∷ [])
-      ((48 + n / 100) ∷ (48 + n / 10 % 10) ∷ (48 + n % 10) ∷ []))
+    ((48 + n / 100) ∷ (48 + n / 10 % 10) ∷ (48 + n % 10) ∷ []))
 
 -- words with single spaces between them
 unfoldable pub spaced : List (List ℕ) → List ℕ

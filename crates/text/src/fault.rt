@@ -3,14 +3,14 @@ ghost use mathlib.Core.Path.{_≡_};
 ghost use Rattle.text.specs.declared.fault.LineFault.the-variants.{InWord};
 
 // A word that is not what is due in its place, with the number of its line.
-#[derive(Clone, Copy, PartialEq, Debug)]
+#[derive(Clone, Copy)]
 pub enum WordFault {
     // A number is due, and the word is not one to three digits without a needless leading 0.
     BadNumber(usize),
 }
 
 // A line that cannot be read, with its number.
-#[derive(Clone, Copy, PartialEq, Debug)]
+#[derive(Clone, Copy)]
 pub enum LineFault {
     // It has more than 60 bytes.
     TooLong(usize),

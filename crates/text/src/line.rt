@@ -1,7 +1,8 @@
 // One line of a text.
 ghost use mathlib.Core.Path.{_≡_};
 ghost use Rattle.text.specs.Text.{all, line-check, printable};
-ghost use Rattle.text.specs.Views.{line-bytes, part};
+ghost use Rattle.text.specs.Views.{line-bytes};
+use crate::cut::part_of;
 use crate::fault::LineFault;
 use crate::words::Words;
 
@@ -38,19 +39,12 @@ impl<'a> Line<'a> {
         ensures start { λ r. ⌜ r .at ≡ now (self .entry) .start ⌝ }
         ensures end { λ r. ⌜ r .end ≡ now (self .entry) .end ⌝ }
     {
-        Words { text: self.text, at: self.start, end: self.end }
+        Words {
+            text: self.text,
+            at: self.start,
+            end: self.end,
+        }
     }
-}
-
-// The bytes from `start` up to and without `end`, as far as the text goes.
-pub fn part_of(text: &[u8], start: usize, end: usize) -> &[u8]
-    ensures { λ r. ⌜ now r ≡ part (now (text .entry)) start end ⌝ }
-{
-    let end = end.min(text.len());
-    if start >= end {
-        return &[];
-    }
-    &text[start..end]
 }
 
 fn printable_byte(byte: u8) -> bool

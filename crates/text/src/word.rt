@@ -9,7 +9,7 @@ ghost use Rattle.text.specs.Views.{bytes-of, kind-of, number-of, place-of, wor
 use crate::fault::WordFault;
 
 // What a word is made of.
-#[derive(Clone, Copy, PartialEq, Debug)]
+#[derive(Clone, Copy)]
 pub enum Class {
     // Small letters only.
     Letters,
@@ -68,7 +68,7 @@ fn class_of(bytes: &[u8]) -> Class
 
 impl<'a> Word<'a> {
     // The word of these bytes at a place, by what it is made of.
-    pub fn of(bytes: &'a [u8], place: usize) -> Word<'a>
+    pub(crate) fn of(bytes: &'a [u8], place: usize) -> Word<'a>
         ensures bytes { λ r. ⌜ bytes-of r ≡ now (bytes .entry) ⌝ }
         ensures place { λ r. ⌜ place-of r ≡ place ⌝ }
         ensures kind { λ r. ⌜ kind-of r ≡ word-class (now (bytes .entry)) ⌝ }

@@ -6,9 +6,8 @@ ghost use mathlib.Core.Path.{_≡_};
 ghost use Rattle.std.specs.Options.{Cases as BySome};
 ghost use Rattle.text.specs.Text.{words};
 ghost use Rattle.text.specs.Views.{bytes-of, kind-of, part, place-of, rest, word-class};
-use crate::line::part_of;
-use crate::scan::spaces;
-use crate::scan::until;
+use crate::cut::cut_word;
+use crate::cut::part_of;
 use crate::word::Word;
 
 // What is left of a line to be read for words: the part of the text from `at` up to and without `end`.
@@ -20,8 +19,8 @@ pub struct Words<'a> {
 }
 
 impl<'a> Words<'a> {
-    // The next word; none, and nothing changed, where no word is left. One or more spaces separate
-    // words, and may stand at either end. A word is the very part of the text at its place.
+    // The next word; none, and nothing changed, where no word is left. A word is the very part of
+    // the text at its place.
     pub fn next_word(&mut self) -> Option<Word<'a>>
         ensures word { λ r. ⌜ BySome r (words (rest (now (self .entry))) ≡ []) (λ w. words (rest (now (self .entry))) ≡ bytes-of w ∷ words (rest (now (self .exit)))) ⌝ }
         ensures kind { λ r. ⌜ BySome r (now (self .exit) ≡ now (self .entry)) (λ w. kind-of w ≡ word-class (bytes-of w)) ⌝ }
@@ -30,14 +29,7 @@ impl<'a> Words<'a> {
         ensures end { λ r. ⌜ now (self .exit) .end ≡ now (self .entry) .end ⌝ }
     {
         let text = self.text;
-        let left = part_of(text, self.at, self.end);
-        let skipped = spaces(left);
-        if skipped >= left.len() {
-            return None;
-        }
-        let size = until(&left[skipped..left.len()], b' ');
-        let place = self.at + skipped;
-        let end = place + size;
+        let (place, end) = cut_word(text, self.at, self.end)?;
         self.at = end;
         Some(Word::of(part_of(text, place, end), place))
     }

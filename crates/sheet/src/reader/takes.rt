@@ -1,24 +1,29 @@
 // One entry after another.
-ghost use lib.ListN.{length};
-ghost use mathlib.Core.List.{List, []};
+ghost use Prim.Native.Nat.{_+_, _-_, _^_, _<_};
+ghost use lib.Dec.{ltb};
+ghost use lib.ListN.{length, set};
+ghost use mathlib.Core.Bool.{cond};
+ghost use mathlib.Core.List.{List};
 ghost use mathlib.Core.Path.{_≡_};
 ghost use Rattle.plan.specs.declared.wire.Wire.{Wire as WireType};
 ghost use Rattle.sheet.specs.Sheet.{Taken, boards-taken, ended, entry-taken, line-taken, nothing, stated, wire-added, wire-taken};
 ghost use Rattle.sheet.specs.Tracks.{Took, Tracks};
+ghost use Rattle.grammar.specs.declared.fault.SheetFault.the-variants.{TableFull};
 ghost use Rattle.std.specs.Results.{Cases};
+ghost use Rattle.std.specs.declared.result.Result.the-variants.{Ok, Err};
 ghost use Rattle.text.specs.Views.{line-bytes};
-use super::Counts;
 use super::Reader;
-use crate::entry::Entry;
-use crate::entry::WireEntry;
-use crate::entry::read_entry;
-use crate::fault::SheetFault;
-use crate::fault::SheetFromPlan;
+use crate::counts::Counts;
+use grammar::entry::Entry;
+use grammar::entry::WireEntry;
+use grammar::entry::read_entry;
+use grammar::fault::SheetFault;
+use grammar::fault::SheetFromPlan;
 use plan::ports::Ports;
-use plan::wire::board_count;
 use plan::wire::End;
 use plan::wire::Wire;
 use plan::wire::WireState;
+use plan::wire::board_count;
 use text::line::Line;
 
 impl Reader {
@@ -26,16 +31,24 @@ impl Reader {
     pub fn new() -> Reader
         ensures { λ r. ⌜ ((start : List WireType) → Tracks r start start nothing) ⌝ }
     {
-        Reader { boards: None, wires: 0, ports: Ports::new() }
+        Reader {
+            boards: None,
+            wires: 0,
+            ports: Ports::new(),
+        }
     }
 
-    // The answer where the lines end before line `line`.
-    pub fn finish(&self, line: usize) -> Result<Counts, SheetFault>
-        ensures { λ r. ⌜ ((t : Taken) (table start : List WireType) → Tracks (now (self .entry)) table start t → r ≡ ended line t (t .boards)) ⌝ }
+    // The answer where a sheet of so many lines ends.
+    pub fn finish(&self, lines: usize) -> Result<Counts, SheetFault>
+        requires { ⌜ lines < 2 ^ 64 - 1 ⌝ }
+        ensures { λ r. ⌜ ((t : Taken) (table start : List WireType) → Tracks (now (self .entry)) table start t → r ≡ ended (lines + 1) t (t .boards)) ⌝ }
     {
         match self.boards {
-            Some(boards) => Ok(Counts { boards, wires: self.wires }),
-            None => Err(SheetFault::Misplaced(line)),
+            Some(boards) => Ok(Counts {
+                boards,
+                wires: self.wires,
+            }),
+            None => Err(SheetFault::Misplaced(lines + 1)),
         }
     }
 }
@@ -50,18 +63,34 @@ fn known_state(state: Option<WireState>, line: usize) -> Result<WireState, Sheet
 }
 
 impl Reader {
-    // Writes a wire behind those taken, if it fits the plan and the table has a record left.
-    fn add_wire(&mut self, count: u8, wire: Wire, line: usize, table: &mut [Wire]) -> Result<(), SheetFault>
-        ensures took { λ r. ⌜ ((t : Taken) (start : List WireType) → Tracks (now (self .entry)) (now (table .entry)) start t → Took r (now (self .exit)) (now (table .exit)) start (wire-added (length start) line count t wire)) ⌝ }
-        ensures refused { λ r. ⌜ Cases r (λ _. Unit {0}) (λ _. now (table .exit) ≡ now (table .entry)) ⌝ }
+    // Writes a wire behind those taken, if the table has a record left.
+    fn store(&mut self, wire: Wire, line: usize, table: &mut [Wire]) -> Result<(), SheetFault>
+        ensures answer { λ r. ⌜ r ≡ cond (ltb (now (self .entry) .wires) (length (now (table .entry)))) (Ok tt) (Err (TableFull line)) ⌝ }
+        ensures stored { λ r. ⌜ Cases r (λ _. (now (table .exit) ≡ set (now (table .entry)) (now (self .entry) .wires) wire) × (now (self .exit) .wires ≡ now (self .entry) .wires + 1)) (λ _. (now (table .exit) ≡ now (table .entry)) × (now (self .exit) .wires ≡ now (self .entry) .wires)) ⌝ }
+        ensures boards { λ r. ⌜ now (self .exit) .boards ≡ now (self .entry) .boards ⌝ }
+        ensures ports { λ r. ⌜ now (self .exit) .ports ≡ now (self .entry) .ports ⌝ }
     {
-        self.ports.admit(count, wire, line)?;
         if self.wires >= table.len() {
             return Err(SheetFault::TableFull(line));
         }
         table[self.wires] = wire;
         self.wires += 1;
         Ok(())
+    }
+
+    // Takes a wire that fits the plan.
+    fn add_wire(
+        &mut self,
+        count: u8,
+        wire: Wire,
+        line: usize,
+        table: &mut [Wire],
+    ) -> Result<(), SheetFault>
+        ensures took { λ r. ⌜ ((t : Taken) (start : List WireType) → Tracks (now (self .entry)) (now (table .entry)) start t → Took r (now (self .exit)) (now (table .exit)) start (wire-added (length start) line count t wire)) ⌝ }
+        ensures refused { λ r. ⌜ Cases r (λ _. Unit {0}) (λ _. now (table .exit) ≡ now (table .entry)) ⌝ }
+    {
+        self.ports.admit(count, wire, line)?;
+        self.store(wire, line, table)
     }
 
     // Takes the board count.
@@ -76,17 +105,29 @@ impl Reader {
     }
 
     // Takes a wire.
-    fn take_wire(&mut self, entry: WireEntry, line: usize, table: &mut [Wire]) -> Result<(), SheetFault>
+    fn take_wire(
+        &mut self,
+        entry: WireEntry,
+        line: usize,
+        table: &mut [Wire],
+    ) -> Result<(), SheetFault>
         ensures took { λ r. ⌜ ((t : Taken) (start : List WireType) → Tracks (now (self .entry)) (now (table .entry)) start t → Took r (now (self .exit)) (now (table .exit)) start (wire-taken (length start) line entry t (t .boards))) ⌝ }
         ensures refused { λ r. ⌜ Cases r (λ _. Unit {0}) (λ _. now (table .exit) ≡ now (table .entry)) ⌝ }
     {
-        let Some(count) = self.boards else {
-            return Err(SheetFault::Misplaced(line));
-        };
+        let count = self.boards.ok_or(SheetFault::Misplaced(line))?;
         let first = End::at(count, entry.first.board, entry.first.port, line)?;
         let second = End::at(count, entry.second.board, entry.second.port, line)?;
         let state = known_state(entry.state, line)?;
-        self.add_wire(count, Wire { first, second, state }, line, table)
+        self.add_wire(
+            count,
+            Wire {
+                first,
+                second,
+                state,
+            },
+            line,
+            table,
+        )
     }
 
     // Takes what line `line` was found to say. A refusal leaves the table as it was.

@@ -1,15 +1,12 @@
-// Lines end with byte 10; the last may lack it, and after a final byte 10 no line follows.
+// One line after another.
 ghost use Prim.Native.Nat.{_+_};
 ghost use mathlib.Core.List.{[], _∷_};
 ghost use mathlib.Core.Path.{_≡_};
 ghost use Rattle.std.specs.Options.{Cases as BySome};
 ghost use Rattle.text.specs.Views.{left, line-bytes};
 use super::Lines;
+use crate::cut::cut_line;
 use crate::line::Line;
-use crate::scan::until;
-
-// The byte that ends a line.
-const LINE_END: u8 = 10;
 
 impl<'a> Lines<'a> {
     // All lines of a text.
@@ -18,7 +15,11 @@ impl<'a> Lines<'a> {
         ensures at { λ r. ⌜ r .at ≡ 0 ⌝ }
         ensures number { λ r. ⌜ r .number ≡ 0 ⌝ }
     {
-        Lines { text, at: 0, number: 0 }
+        Lines {
+            text,
+            at: 0,
+            number: 0,
+        }
     }
 
     // The next line, with its number; none where no line is left.
@@ -28,15 +29,16 @@ impl<'a> Lines<'a> {
         ensures source { λ r. ⌜ BySome r (Unit {0}) (λ l. l .text ≡ now (self .entry) .text) ⌝ }
         ensures kept { λ r. ⌜ now (self .exit) .text ≡ now (self .entry) .text ⌝ }
     {
-        let text = self.text;
-        let start = self.at;
-        if start >= text.len() {
-            return None;
-        }
-        let end = start + until(&text[start..text.len()], LINE_END);
+        let (text, start) = (self.text, self.at);
+        let (end, next) = cut_line(text, start)?;
         let number = self.number + 1;
-        self.at = if end < text.len() { end + 1 } else { end };
+        self.at = next;
         self.number = number;
-        Some(Line { text, start, end, number })
+        Some(Line {
+            text,
+            start,
+            end,
+            number,
+        })
     }
 }

@@ -1,5 +1,4 @@
 use lib.ListN.{length}
-use denote.Ref.{now}
 use Rattle.sheet.proofs.Reading.{Underway}
 use Rattle.sheet.proofs.read.read_sheet.Given as given
 use Rattle.text.specs.Views.{left}

@@ -12,9 +12,10 @@ loop-byte-again c =
     let l = all-drop-more letter (c .args .bytes .now) (c .loop-byte .byte-index) (search needs) in
     let b = getD (c .args .bytes .now) (c .loop-byte .byte-index) 0 in
     elim (c .match-byte-class .came) [
-      in-Digits w ↦ let t = digits-tell b (w .in-Digits .ensures tt) in let x = w .digits-is in let y = w .letters-is in (grind arith, grind arith)
-    | in-Letters w ↦ let t = letters-tell b (w .in-Letters .ensures tt) in let x = w .digits-is in let y = w .letters-is in (grind arith, grind arith)
-    | in-Mixed w ↦ let t = mixed-tell b (w .in-Mixed .ensures tt) in let x = w .digits-is in let y = w .letters-is in (grind arith, grind arith) ]
+      | in-Digits w ↦ let t = digits-tell b (w .in-Digits .ensures tt) in let x = w .digits-is in let y = w .letters-is in (grind arith, grind arith)
+      | in-Letters w ↦ let t = letters-tell b (w .in-Letters .ensures tt) in let x = w .digits-is in let y = w .letters-is in (grind arith, grind arith)
+      | in-Mixed w ↦ let t = mixed-tell b (w .in-Mixed .ensures tt) in let x = w .digits-is in let y = w .letters-is in (grind arith, grind arith)
+    ]
 
 pub returns-then-digits : need.returns-then-digits
 returns-then-digits c =

@@ -1,0 +1,59 @@
+#!/usr/bin/env python3
+"""The stored inputs and expected outputs of the programs, made anew by the generator and the reference.
+
+    fixtures.py write    writes them
+    fixtures.py check    fails where a stored file differs, or the reference errs on an edge
+"""
+import pathlib
+import subprocess
+import sys
+
+import generate
+
+ROOT = pathlib.Path(__file__).parent.parent
+TOOLS = ROOT / "tools"
+
+
+def run(*words, stdin=None):
+    done = subprocess.run([sys.executable, *map(str, words)], input=stdin, stdout=subprocess.PIPE, check=False)
+    return done.stdout
+
+
+def made():
+    """Each file with what it should hold."""
+    cases = run(TOOLS / "generate.py")
+    corroded = ROOT / "examples/corroded.sheet"
+    return {
+        ROOT / "crates/cases/stdin": cases,
+        ROOT / "crates/cases/stdout": run(TOOLS / "reference.py", "cases", stdin=cases),
+        ROOT / "crates/carry/data/corroded.sheet": corroded.read_bytes(),
+        ROOT / "crates/carry/stdout": run(TOOLS / "reference.py", "carry", corroded),
+    }
+
+
+def wrong_edges(files):
+    answers = files[ROOT / "crates/cases/stdout"].decode().splitlines()
+    for (room, parts, outcome), answer in zip(generate.edges(), answers):
+        if answer != outcome:
+            yield f"edge {room} {parts}: {outcome!r} by hand, {answer!r} by the reference"
+
+
+def main(args):
+    if args not in (["write"], ["check"]):
+        print(__doc__, file=sys.stderr)
+        return 2
+    files = made()
+    if args == ["write"]:
+        for path, data in files.items():
+            path.parent.mkdir(parents=True, exist_ok=True)
+            path.write_bytes(data)
+    faults = list(wrong_edges(files))
+    faults += [f"{path} is not what the tools make" for path, data in files.items()
+               if not path.exists() or path.read_bytes() != data]
+    for fault in faults:
+        print(fault, file=sys.stderr)
+    return 1 if faults else 0
+
+
+if __name__ == "__main__":
+    sys.exit(main(sys.argv[1:]))
