@@ -97,13 +97,17 @@ fn print_plan(rt: &LibcRuntime, counts: Counts, table: &[Wire]) -> Result<(), An
     let (boards, wires) = (counts.boards, counts.wires);
     println!(rt, "read {boards} boards, {wires} wires")?;
     for (number, wire) in table.iter().take(wires).enumerate() {
-        let (first, second) = (wire.first, wire.second);
-        let (a, p, b, q) = (first.board, first.port, second.board, second.port);
+        print!(rt, "wire {number}: ")?;
+        print_end(rt, wire.first)?;
+        print!(rt, ", ")?;
+        print_end(rt, wire.second)?;
         let state = wire.state.name();
-        println!(
-            rt,
-            "wire {number}: board {a} port {p}, board {b} port {q}, {state}"
-        )?;
+        println!(rt, ", {state}")?;
     }
     Ok(())
+}
+
+fn print_end(rt: &LibcRuntime, end: End) -> io::Result<()> {
+    let (board, port) = (end.board, end.port);
+    print!(rt, "board {board} port {port}")
 }

@@ -9,6 +9,7 @@ use plan::wire::WireState;
 use sheet::read::read_sheet;
 use std::alloc::Global;
 use std::error::AnyError;
+use std::io;
 use std::io::BufRead;
 use std::io::BufReader;
 
@@ -25,47 +26,49 @@ const BLANK: Wire = Wire {
 };
 
 fn main(rt: LibcRuntime) -> Result<(), AnyError> {
-    let heap = rt.alloc();
-    for line in BufReader::new(rt.stdin()).lines(heap) {
-        let line = line?;
-        let report = judged(heap, line.as_str())?;
-        println!(rt, "{report}")?;
+    for line in BufReader::new(rt.stdin()).lines(rt.alloc()) {
+        judge(&rt, line?.as_str())?;
     }
     Ok(())
 }
 
-// What became of one sheet.
-fn judged(heap: Global, line: &str) -> Result<String, AnyError> {
+// Reads one sheet and prints what became of it.
+fn judge(rt: &LibcRuntime, line: &str) -> Result<(), AnyError> {
     let Some((room, text)) = line.split_once(" ") else {
         return Err("a line has two words".into());
     };
-    let sheet = decoded(heap, text)?;
-    let mut table = vec![in heap; BLANK; room.parse::<usize>()?]?;
-    let mut report = match read_sheet(sheet.as_slice(), table.as_mut_slice()) {
+    let sheet = decoded(rt.alloc(), text)?;
+    let mut table = vec![in rt.alloc(); BLANK; room.parse::<usize>()?]?;
+    match read_sheet(sheet.as_slice(), table.as_mut_slice()) {
         Ok(counts) => {
             let (boards, wires) = (counts.boards, counts.wires);
-            format!(heap, "{boards} boards, {wires} wires")?
+            print!(rt, "{boards} boards, {wires} wires")?;
         }
         Err(fault) => {
             let refusal = fault.refusal();
             let (layer, number, place) = (refusal.layer, refusal.number, refusal.place);
-            format!(heap, "{layer} {number} {place}")?
-        }
-    };
-    for (number, wire) in table.iter().enumerate() {
-        if wire.first.board != UNTOUCHED.board {
-            report.push_str(record(heap, number, *wire)?.as_str())?;
+            print!(rt, "{layer} {number} {place}")?;
         }
     }
-    Ok(report)
+    print_records(rt, table.as_slice())?;
+    println!(rt, "")?;
+    Ok(())
 }
 
-// One record of the table.
-fn record(heap: Global, number: usize, wire: Wire) -> Result<String, AnyError> {
-    let (a, p) = (wire.first.board, wire.first.port);
-    let (b, q) = (wire.second.board, wire.second.port);
-    let state = wire.state.name();
-    Ok(format!(heap, "; {number} {a} {p} {b} {q} {state}")?)
+// Every record of the table that was written.
+fn print_records(rt: &LibcRuntime, table: &[Wire]) -> io::Result<()> {
+    for (number, wire) in table.iter().enumerate() {
+        let (first, second) = (wire.first, wire.second);
+        if first.board != UNTOUCHED.board {
+            print!(rt, "; {number}")?;
+            for n in [first.board, first.port, second.board, second.port] {
+                print!(rt, " {n}")?;
+            }
+            let state = wire.state.name();
+            print!(rt, " {state}")?;
+        }
+    }
+    Ok(())
 }
 
 // The bytes that a text stands for.

@@ -1,7 +1,4 @@
 // The edges of the sheet format, one by one.
-use plan::fault::Refusal;
-use plan::fault::RefusalDebug;
-use plan::fault::RefusalPartialEq;
 use plan::wire::End;
 use plan::wire::Wire;
 use plan::wire::WireState;
@@ -21,14 +18,12 @@ fn refused(sheet: &[u8], number: u8, place: usize) -> Result<(), Fail> {
     let mut table = [BLANK; 2];
     match read_sheet(sheet, &mut table) {
         Ok(_) => Err(Fail::new("taken")),
-        Err(fault) => check_eq(
-            fault.refusal(),
-            Refusal {
-                layer: 1,
-                number,
-                place,
-            },
-        ),
+        Err(fault) => {
+            let refusal = fault.refusal();
+            check_eq(refusal.layer, 1)?;
+            check_eq(refusal.number, number)?;
+            check_eq(refusal.place, place)
+        }
     }
 }
 

@@ -66,6 +66,7 @@ fn keyword<'a>(word: Word<'a>) -> &'a [u8]
     }
 }
 
+// Whether the two are the same bytes.
 fn same(bytes: &[u8], word: &[u8]) -> bool
     ensures { λ r. ⌜ r ≡ sameBytes (now (bytes .entry)) (now (word .entry)) ⌝ }
 {

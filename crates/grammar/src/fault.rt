@@ -65,6 +65,7 @@ impl SheetFault {
     }
 }
 
+// A refusal of layer 1.
 fn at(number: u8, place: usize) -> Refusal
     ensures { λ r. ⌜ (r .layer ≡ 1) × (r .number ≡ number) × (r .place ≡ place) ⌝ }
 {
@@ -82,6 +83,7 @@ pub impl fmt::Display for SheetFault as SheetFaultDisplay {
     }
 }
 
+// What is wrong, for a person to act on.
 fn why(fault: &SheetFault) -> &'static str {
     match *fault {
         SheetFault::TooLong => "the sheet has more than 32768 bytes",

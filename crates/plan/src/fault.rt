@@ -16,7 +16,7 @@ pub enum PlanFault {
 
 // A refusal as it is reported: the layer that found it (1 sheet, 2 stringing, 3 frame), its number
 // and its place.
-#[derive(Clone, Copy, PartialEq, Debug)]
+#[derive(Clone, Copy)]
 pub struct Refusal {
     pub layer: u8,
     pub number: u8,

@@ -80,6 +80,13 @@ size-check sheet = cond (ltb 32768 (length sheet)) (Err TooLong) (Ok tt)
 unfoldable pub sheet-read : ℕ → List ℕ → Taken × Result Counts SheetFault
 sheet-read room sheet = elim (size-check sheet) [ Ok _ ↦ lines-read room 1 (lines sheet) nothing | Err f ↦ (nothing, Err f) ]
 
+abbrev pub sheet-answer : ℕ → List ℕ → Result Counts SheetFault
+sheet-answer room sheet = sheet-read room sheet .1
+
+-- the wires of the lines taken
+abbrev pub sheet-wires : ℕ → List ℕ → List Wire
+sheet-wires room sheet = sheet-read room sheet .0 .wires
+
 -- a table that begins with the wires taken, its other records as they were
 abbrev pub filled : List Wire → List Wire → List Wire
 filled wires table = wires ++ drop (length wires) table

@@ -2,7 +2,7 @@
 ghost use lib.ListN.{length};
 ghost use mathlib.Core.Path.{_≡_};
 ghost use Rattle.sheet.specs.Promises.{ReadsBack};
-ghost use Rattle.sheet.specs.Sheet.{filled, sheet-read, size-check};
+ghost use Rattle.sheet.specs.Sheet.{filled, sheet-answer, sheet-wires, size-check};
 use crate::counts::Counts;
 use crate::reader::Reader;
 use grammar::fault::SheetFault;
@@ -25,8 +25,8 @@ fn check_size(sheet: &[u8]) -> Result<(), SheetFault>
 // the lines taken, all those before a faulty one, then stand first in the table, in their order;
 // its other records are untouched. A good plan that was written as a sheet is read back.
 pub fn read_sheet(sheet: &[u8], table: &mut [Wire]) -> Result<Counts, SheetFault>
-    ensures answer { λ r. ⌜ r ≡ sheet-read (length (now (table .entry))) (now (sheet .entry)) .1 ⌝ }
-    ensures table { λ r. ⌜ now (table .exit) ≡ filled (sheet-read (length (now (table .entry))) (now (sheet .entry)) .0 .wires) (now (table .entry)) ⌝ }
+    ensures answer { λ r. ⌜ r ≡ sheet-answer (length (now (table .entry))) (now (sheet .entry)) ⌝ }
+    ensures table { λ r. ⌜ now (table .exit) ≡ filled (sheet-wires (length (now (table .entry))) (now (sheet .entry))) (now (table .entry)) ⌝ }
     ensures plan { λ r. ⌜ ReadsBack (now (sheet .entry)) (now (table .entry)) r (now (table .exit)) ⌝ }
 {
     check_size(sheet)?;

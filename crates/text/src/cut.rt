@@ -36,7 +36,7 @@ fn spaces(bytes: &[u8]) -> usize
 }
 
 // The bytes from `start` up to and without `end`, as far as the text goes.
-pub fn part_of(text: &[u8], start: usize, end: usize) -> &[u8]
+pub(crate) fn part_of(text: &[u8], start: usize, end: usize) -> &[u8]
     ensures { λ r. ⌜ now r ≡ part (now (text .entry)) start end ⌝ }
 {
     let end = end.min(text.len());
@@ -48,7 +48,7 @@ pub fn part_of(text: &[u8], start: usize, end: usize) -> &[u8]
 
 // Where the line that begins at `start` ends, and where the next begins; none where no line is left.
 // Lines end with byte 10; the last may lack it, and after a final byte 10 no line follows.
-pub fn cut_line(text: &[u8], start: usize) -> Option<(usize, usize)>
+pub(crate) fn cut_line(text: &[u8], start: usize) -> Option<(usize, usize)>
     ensures { λ r. ⌜ BySome r (lines (drop start (now (text .entry))) ≡ []) (λ p. LineCut (now (text .entry)) start (p .0) (p .1)) ⌝ }
 {
     if start >= text.len() {
@@ -61,7 +61,7 @@ pub fn cut_line(text: &[u8], start: usize) -> Option<(usize, usize)>
 
 // Where the next word of the part from `at` to `end` begins and ends; none where no word is left.
 // One or more spaces separate words, and may stand at either end.
-pub fn cut_word(text: &[u8], at: usize, end: usize) -> Option<(usize, usize)>
+pub(crate) fn cut_word(text: &[u8], at: usize, end: usize) -> Option<(usize, usize)>
     ensures { λ r. ⌜ BySome r (words (part (now (text .entry)) at end) ≡ []) (λ p. WordCut (now (text .entry)) at end (p .0) (p .1)) ⌝ }
 {
     let left = part_of(text, at, end);

@@ -47,12 +47,14 @@ impl<'a> Line<'a> {
     }
 }
 
+// Whether a byte may stand in a line.
 fn printable_byte(byte: u8) -> bool
     ensures { λ r. ⌜ r ≡ printable byte ⌝ }
 {
     byte >= 32 && byte <= 126
 }
 
+// Whether all may.
 fn all_printable(bytes: &[u8]) -> bool
     ensures { λ r. ⌜ r ≡ all printable (now (bytes .entry)) ⌝ }
 {

@@ -26,9 +26,19 @@ use plan::wire::WireState;
 use plan::wire::board_count;
 use text::line::Line;
 
+// The state of a wire line; none where the word named none.
+fn known_state(state: Option<WireState>, line: usize) -> Result<WireState, SheetFault>
+    ensures { λ r. ⌜ r ≡ stated line state ⌝ }
+{
+    match state {
+        Some(state) => Ok(state),
+        None => Err(SheetFault::UnknownState(line)),
+    }
+}
+
 impl Reader {
     // Nothing is taken yet.
-    pub fn new() -> Reader
+    pub(crate) fn new() -> Reader
         ensures { λ r. ⌜ ((start : List WireType) → Tracks r start start nothing) ⌝ }
     {
         Reader {
@@ -39,7 +49,7 @@ impl Reader {
     }
 
     // The answer where a sheet of so many lines ends.
-    pub fn finish(&self, lines: usize) -> Result<Counts, SheetFault>
+    pub(crate) fn finish(&self, lines: usize) -> Result<Counts, SheetFault>
         requires { ⌜ lines < 2 ^ 64 - 1 ⌝ }
         ensures { λ r. ⌜ ((t : Taken) (table start : List WireType) → Tracks (now (self .entry)) table start t → r ≡ ended (lines + 1) t (t .boards)) ⌝ }
     {
@@ -51,18 +61,7 @@ impl Reader {
             None => Err(SheetFault::Misplaced(lines + 1)),
         }
     }
-}
 
-fn known_state(state: Option<WireState>, line: usize) -> Result<WireState, SheetFault>
-    ensures { λ r. ⌜ r ≡ stated line state ⌝ }
-{
-    match state {
-        Some(state) => Ok(state),
-        None => Err(SheetFault::UnknownState(line)),
-    }
-}
-
-impl Reader {
     // Writes a wire behind those taken, if the table has a record left.
     fn store(&mut self, wire: Wire, line: usize, table: &mut [Wire]) -> Result<(), SheetFault>
         ensures answer { λ r. ⌜ r ≡ cond (ltb (now (self .entry) .wires) (length (now (table .entry)))) (Ok tt) (Err (TableFull line)) ⌝ }
@@ -143,7 +142,7 @@ impl Reader {
     }
 
     // Takes a line. A refusal leaves the table as it was.
-    pub fn take_line(&mut self, line: &Line, table: &mut [Wire]) -> Result<(), SheetFault>
+    pub(crate) fn take_line(&mut self, line: &Line, table: &mut [Wire]) -> Result<(), SheetFault>
         ensures took { λ r. ⌜ ((t : Taken) (start : List WireType) → Tracks (now (self .entry)) (now (table .entry)) start t → Took r (now (self .exit)) (now (table .exit)) start (line-taken (length start) (now (line .entry) .number) t (line-bytes (now (line .entry))))) ⌝ }
         ensures refused { λ r. ⌜ Cases r (λ _. Unit {0}) (λ _. now (table .exit) ≡ now (table .entry)) ⌝ }
     {
