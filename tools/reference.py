@@ -102,6 +102,10 @@ class Sheet:
         return 0
 
 
+def refusal(number, place):
+    return f"refused: layer 1, number {number}, place {place} ({WHY[number]})"
+
+
 def carry(path):
     sheet = Sheet(512)
     with open(path, "rb") as f:
@@ -109,7 +113,7 @@ def carry(path):
     try:
         sheet.read(data)
     except Refused as r:
-        print(f"refused: layer 1, number {r.number}, place {r.place} ({WHY[r.number]})")
+        print(refusal(r.number, r.place))
         return 1
     print(f"read {sheet.count} boards, {len(sheet.wires)} wires")
     for n, (a, p, b, q, s) in enumerate(sheet.wires):
@@ -134,7 +138,7 @@ def cases():
             sheet.read(decoded(text))
             answer = f"{sheet.count} boards, {len(sheet.wires)} wires"
         except Refused as r:
-            answer = f"1 {r.number} {r.place}"
+            answer = refusal(r.number, r.place)
         table = "".join(f"; {n} {a} {p} {b} {q} {s}" for n, (a, p, b, q, s) in enumerate(sheet.wires))
         print(answer + table)
     return 0

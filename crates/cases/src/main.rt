@@ -1,8 +1,9 @@
 // Reads many sheets from standard input and prints what became of each, to be compared with what
 // an independent reader says of them. A line of input: how many wires the table has room for, and
 // the sheet's bytes (`-` for none, else parts with commas between: hexadecimal bytes, perhaps
-// `*TIMES`). A line of output: the counts, or layer, number and place, and then every record of the
-// table that was written.
+// `*TIMES`). A line of output: the counts or the refusal, and then every record of the table that was
+// written.
+use grammar::fault::SheetFaultDisplay;
 use plan::wire::End;
 use plan::wire::Wire;
 use plan::wire::WireState;
@@ -47,7 +48,10 @@ fn judge(rt: &LibcRuntime, line: &str) -> Result<(), AnyError> {
         Err(fault) => {
             let refusal = fault.refusal();
             let (layer, number, place) = (refusal.layer, refusal.number, refusal.place);
-            print!(rt, "{layer} {number} {place}")?;
+            print!(
+                rt,
+                "refused: layer {layer}, number {number}, place {place} ({fault})"
+            )?;
         }
     }
     print_records(rt, table.as_slice())?;

@@ -11,6 +11,7 @@ use Rattle.std.specs.declared.option.Option.the-variants.{Some, None}
 use Rattle.std.specs.declared.result.Result.{Result}
 use Rattle.std.specs.declared.result.Result.the-variants.{Ok, Err}
 use Rattle.plan.specs.Answers.{bind, lift}
+use Rattle.plan.specs.States.{state-word}
 use Rattle.plan.specs.declared.wire.WireState.{WireState}
 use Rattle.plan.specs.declared.wire.WireState.the-variants.{Whole, OutOnly, BackOnly, Dead}
 use Rattle.grammar.specs.declared.entry.EndNumbers.{EndNumbers}
@@ -29,12 +30,12 @@ head-of w =
     cond (sameBytes w (codes "boards")) (Some BoardsLine)
     (cond (sameBytes w (codes "wire")) (Some WireLine) (cond (sameBytes w (codes "note")) (Some NoteLine) None))
 
--- `ok`: both directions work; `out`: only from the first end; `back`: only to it; `dead`: neither
+-- the state that a word names
 abbrev pub state-of : List ℕ → Option WireState
 state-of w =
-    cond (sameBytes w (codes "ok")) (Some Whole)
-    (cond (sameBytes w (codes "out")) (Some OutOnly)
-    (cond (sameBytes w (codes "back")) (Some BackOnly) (cond (sameBytes w (codes "dead")) (Some Dead) None)))
+    cond (sameBytes w (state-word Whole)) (Some Whole)
+    (cond (sameBytes w (state-word OutOnly)) (Some OutOnly)
+    (cond (sameBytes w (state-word BackOnly)) (Some BackOnly) (cond (sameBytes w (state-word Dead)) (Some Dead) None)))
 
 -- a word where a number is due
 abbrev pub number-at : ℕ → List ℕ → Result ℕ SheetFault
