@@ -8,8 +8,8 @@ ghost use Rattle.grammar.specs.Keyword.{Five, One, Two, keyword-bytes};
 ghost use Rattle.std.specs.Options.{Cases as BySome};
 ghost use Rattle.std.specs.shelf.Text.{sameBytes};
 ghost use Rattle.plan.specs.Answers.{lift};
-ghost use Rattle.text.specs.Text.{words as words-in};
-ghost use Rattle.text.specs.Views.{bytes-of, kind-of, line-bytes, number-of, rest, word-class};
+ghost use Rattle.text.specs.Text.{words};
+ghost use Rattle.text.specs.Views.{bytes-of, kind-of, line-bytes, number-of, word-class};
 ghost use Rattle.grammar.specs.declared.fault.SheetFault.the-variants.{InLine};
 ghost use Rattle.text.specs.declared.fault.LineFault.the-variants.{InWord};
 use crate::fault::SheetFault;
@@ -19,7 +19,6 @@ use text::fault::LineFault;
 use text::fault::LineFromWord;
 use text::line::Line;
 use text::word::Word;
-use text::words::Words;
 
 // What a line's first word makes of it.
 #[derive(Clone, Copy)]
@@ -115,14 +114,14 @@ fn number(word: Word, line: usize) -> Result<u16, LineFault>
     Ok(word.number(line)?)
 }
 
-// The words of `boards N` behind the first: one, a number.
-fn boards_entry(words: Words, line: usize) -> Result<Entry, SheetFault>
-    ensures { λ r. ⌜ r ≡ boards-entry line (words-in (rest (words .entry))) ⌝ }
+// `boards N` behind the first word: one, a number.
+fn boards_entry(line: Line) -> Result<Entry, SheetFault>
+    ensures { λ r. ⌜ r ≡ boards-entry (line .entry .number) (words (line-bytes (line .entry))) ⌝ }
 {
-    let Some(count) = only_word(words) else {
-        return Err(SheetFault::WordCount(line));
+    let Some(count) = only_word(line) else {
+        return Err(SheetFault::WordCount(line.number));
     };
-    let count = number(count, line)?;
+    let count = number(count, line.number)?;
     Ok(Entry::Boards(count))
 }
 
@@ -146,44 +145,44 @@ struct WireWords<'a> {
 }
 
 // The one word that is left; none where there are more or fewer.
-fn only_word<'a>(mut words: Words<'a>) -> Option<Word<'a>>
-    ensures { λ r. ⌜ BySome r (eqb (length (words-in (rest (words .entry)))) 1 ≡ false) (λ w. One w (words-in (rest (words .entry)))) ⌝ }
+fn only_word<'a>(mut line: Line<'a>) -> Option<Word<'a>>
+    ensures { λ r. ⌜ BySome r (eqb (length (words (line-bytes (line .entry)))) 1 ≡ false) (λ w. One w (words (line-bytes (line .entry)))) ⌝ }
 {
-    let word = words.next_word()?;
-    match words.next_word() {
+    let word = line.next_word()?;
+    match line.next_word() {
         Some(_) => None,
         None => Some(word),
     }
 }
 
 // Two words more; none where there are fewer.
-fn two_words<'a>(words: &mut Words<'a>) -> Option<(Word<'a>, Word<'a>)>
-    ensures { λ r. ⌜ BySome r (ltb (length (words-in (rest (now (words .entry))))) 2 ≡ true) (λ w. Two (w .0) (w .1) (words-in (rest (now (words .entry)))) (words-in (rest (now (words .exit))))) ⌝ }
+fn two_words<'a>(line: &mut Line<'a>) -> Option<(Word<'a>, Word<'a>)>
+    ensures { λ r. ⌜ BySome r (ltb (length (words (line-bytes (now (line .entry))))) 2 ≡ true) (λ w. Two (w .0) (w .1) (words (line-bytes (now (line .entry)))) (words (line-bytes (now (line .exit))))) ⌝ }
 {
-    let one = words.next_word()?;
-    let two = words.next_word()?;
+    let one = line.next_word()?;
+    let two = line.next_word()?;
     Some((one, two))
 }
 
 // Five words; none where there are more or fewer.
-fn wire_words<'a>(mut words: Words<'a>) -> Option<WireWords<'a>>
-    ensures { λ r. ⌜ BySome r (eqb (length (words-in (rest (words .entry)))) 5 ≡ false) (λ w. Five (w .a) (w .p) (w .b) (w .q) (w .s) (words-in (rest (words .entry)))) ⌝ }
+fn wire_words<'a>(mut line: Line<'a>) -> Option<WireWords<'a>>
+    ensures { λ r. ⌜ BySome r (eqb (length (words (line-bytes (line .entry)))) 5 ≡ false) (λ w. Five (w .a) (w .p) (w .b) (w .q) (w .s) (words (line-bytes (line .entry)))) ⌝ }
 {
-    let (a, p) = two_words(&mut words)?;
-    let (b, q) = two_words(&mut words)?;
-    let s = only_word(words)?;
+    let (a, p) = two_words(&mut line)?;
+    let (b, q) = two_words(&mut line)?;
+    let s = only_word(line)?;
     Some(WireWords { a, p, b, q, s })
 }
 
-// `wire A P B Q S`, by the words behind the first: four numbers and a state.
-fn wire_entry(words: Words, line: usize) -> Result<Entry, SheetFault>
-    ensures { λ r. ⌜ r ≡ wire-entry line (words-in (rest (words .entry))) ⌝ }
+// `wire A P B Q S` behind the first word: four numbers and a state.
+fn wire_entry(line: Line) -> Result<Entry, SheetFault>
+    ensures { λ r. ⌜ r ≡ wire-entry (line .entry .number) (words (line-bytes (line .entry))) ⌝ }
 {
-    let Some(words) = wire_words(words) else {
-        return Err(SheetFault::WordCount(line));
+    let Some(words) = wire_words(line) else {
+        return Err(SheetFault::WordCount(line.number));
     };
-    let first = end_numbers(words.a, words.p, line)?;
-    let second = end_numbers(words.b, words.q, line)?;
+    let first = end_numbers(words.a, words.p, line.number)?;
+    let second = end_numbers(words.b, words.q, line.number)?;
     let state = wire_state(keyword(words.s));
     Ok(Entry::Wires(WireEntry {
         first,
@@ -197,13 +196,13 @@ pub fn read_entry(line: &Line) -> Result<Entry, SheetFault>
     ensures { λ r. ⌜ r ≡ entry-of (now (line .entry) .number) (line-bytes (now (line .entry))) ⌝ }
 {
     line.check()?;
-    let mut words = line.words();
-    let Some(first) = words.next_word() else {
+    let mut rest = *line;
+    let Some(first) = rest.next_word() else {
         return Ok(Entry::Skip);
     };
     match line_head(keyword(first)) {
-        Some(Head::BoardsLine) => boards_entry(words, line.number),
-        Some(Head::WireLine) => wire_entry(words, line.number),
+        Some(Head::BoardsLine) => boards_entry(rest),
+        Some(Head::WireLine) => wire_entry(rest),
         Some(Head::NoteLine) => Ok(Entry::Skip),
         None => Err(SheetFault::UnknownLine(line.number)),
     }

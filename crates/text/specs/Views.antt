@@ -15,19 +15,14 @@ use Rattle.text.specs.declared.word.Word.{Word}
 use Rattle.text.specs.declared.word.Word.the-variants.{Keyword, Number, Text}
 use Rattle.text.specs.declared.line.Line.{Line}
 use Rattle.text.specs.declared.lines.Lines.{Lines}
-use Rattle.text.specs.declared.words.Words.{Words}
 
 -- the bytes from one place up to and without another
 abbrev pub part : List ℕ → ℕ → ℕ → List ℕ
 part text start end = take (end - start) (drop start text)
 
--- the bytes of a line
+-- the bytes of a line, or of what is left of it
 abbrev pub line-bytes : Line → List ℕ
 line-bytes l = part (now (l .text)) (l .start) (l .end)
-
--- the bytes of a line that are left to be read for words
-abbrev pub rest : Words → List ℕ
-rest w = part (now (w .text)) (w .at) (w .end)
 
 -- whether a word is digits only, small letters only, or anything else
 abbrev pub word-class : List ℕ → Class

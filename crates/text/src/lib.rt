@@ -4,4 +4,3 @@ pub mod fault;
 pub mod line;
 pub mod lines;
 pub mod word;
-pub mod words;

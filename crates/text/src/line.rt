@@ -1,15 +1,21 @@
-// One line of a text.
+// One line of a text, and its words, one after the other.
+ghost use Prim.Native.Nat.{_+_};
+ghost use lib.ListN.{length};
+ghost use mathlib.Core.List.{[], _∷_};
 ghost use mathlib.Core.Path.{_≡_};
-ghost use Rattle.text.specs.Text.{all, line-check, printable};
-ghost use Rattle.text.specs.Views.{line-bytes};
+ghost use Rattle.std.specs.Options.{Cases as BySome};
+ghost use Rattle.text.specs.Text.{all, line-check, printable, words};
+ghost use Rattle.text.specs.Views.{bytes-of, kind-of, line-bytes, part, place-of, word-class};
+use crate::cut::cut_word;
 use crate::cut::part_of;
 use crate::fault::LineFault;
-use crate::words::Words;
+use crate::word::Word;
 
 // The most bytes a line may have, its end not counted.
 pub const LINE_BYTES: usize = 60;
 
-// A line: its number from 1, and the part of the text it is, from `start` up to and without `end`.
+// A line, or what is left of it: its number from 1, and the part of the text it is, from `start` up
+// to and without `end`.
 #[derive(Clone, Copy)]
 pub struct Line<'a> {
     pub text: &'a [u8],
@@ -33,17 +39,20 @@ impl<'a> Line<'a> {
         Ok(())
     }
 
-    // Its words, from the first on.
-    pub fn words(&self) -> Words<'a>
-        ensures text { λ r. ⌜ r .text ≡ now (self .entry) .text ⌝ }
-        ensures start { λ r. ⌜ r .at ≡ now (self .entry) .start ⌝ }
-        ensures end { λ r. ⌜ r .end ≡ now (self .entry) .end ⌝ }
+    // Takes the first word off the line; none, and nothing changed, where no word is left. A word is
+    // the very part of the text at its place.
+    pub fn next_word(&mut self) -> Option<Word<'a>>
+        ensures word { λ r. ⌜ BySome r (words (line-bytes (now (self .entry))) ≡ []) (λ w. words (line-bytes (now (self .entry))) ≡ bytes-of w ∷ words (line-bytes (now (self .exit)))) ⌝ }
+        ensures kind { λ r. ⌜ BySome r (now (self .exit) ≡ now (self .entry)) (λ w. kind-of w ≡ word-class (bytes-of w)) ⌝ }
+        ensures part { λ r. ⌜ BySome r (Unit {0}) (λ w. bytes-of w ≡ part (now (now (self .entry) .text)) (place-of w) (place-of w + length (bytes-of w))) ⌝ }
+        ensures text { λ r. ⌜ now (self .exit) .text ≡ now (self .entry) .text ⌝ }
+        ensures end { λ r. ⌜ now (self .exit) .end ≡ now (self .entry) .end ⌝ }
+        ensures number { λ r. ⌜ now (self .exit) .number ≡ now (self .entry) .number ⌝ }
     {
-        Words {
-            text: self.text,
-            at: self.start,
-            end: self.end,
-        }
+        let text = self.text;
+        let (place, end) = cut_word(text, self.start, self.end)?;
+        self.start = end;
+        Some(Word::of(part_of(text, place, end), place))
     }
 }
 
