@@ -2,7 +2,7 @@
 """The stored inputs and expected outputs of the programs, made anew by the generator and the reference.
 
     fixtures.py write    writes them
-    fixtures.py check    fails where a stored file differs, or the reference errs on an edge
+    fixtures.py check    fails where a stored file differs, or the reference errs on an edge or refuses an example
 """
 import pathlib
 import re
@@ -45,6 +45,14 @@ def wrong_edges(files):
             yield f"edge {room} {parts}: {outcome!r} by hand, {answer!r} by the reference"
 
 
+def refused_examples():
+    for path in sorted((ROOT / "examples").glob("*.sheet")):
+        try:
+            reference.Sheet(512).read(path.read_bytes())
+        except reference.Refused as r:
+            yield f"{path}: {reference.refusal(r.number, r.place)}"
+
+
 def main(args):
     if args not in (["write"], ["check"]):
         print(__doc__, file=sys.stderr)
@@ -54,7 +62,7 @@ def main(args):
         for path, data in files.items():
             path.parent.mkdir(parents=True, exist_ok=True)
             path.write_bytes(data)
-    faults = list(wrong_edges(files))
+    faults = [*wrong_edges(files), *refused_examples()]
     faults += [f"{path} is not what the tools make" for path, data in files.items()
                if not path.exists() or path.read_bytes() != data]
     for fault in faults:
