@@ -1,4 +1,6 @@
 // Address books: what a book means, and what holds of every book.
+#![tactic(auto)]
+
 ghost use Rattle.std.specs.Prelude.{◌≡◌, ℕ, ◌<◌, ◌≤◌, true, false, List, length, is_some, None, Option, MatchOption, slice_index};
 ghost use Rattle.rows.specs.Rows.{Rows, both_same, depth_of, extended, listed, no_rows, shared_of, started};
 ghost use Rattle.book.specs.Memory.{Written, writable};

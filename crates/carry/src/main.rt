@@ -1,4 +1,6 @@
 // The program: reads a wiring sheet and says what it holds, or why it is refused.
+#![tactic(auto)]
+
 use anyhow::anyhow;
 use plan::wire::{End, Wire, WireState};
 use sheet::counts::Counts;

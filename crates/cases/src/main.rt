@@ -3,6 +3,8 @@
 // the sheet's bytes (`-` for none, else parts with commas between: hexadecimal bytes, perhaps
 // `*TIMES`). A line of output: the counts or the refusal, and then every record of the table that was
 // written.
+#![tactic(auto)]
+
 use anyhow::anyhow;
 use plan::wire::{End, Wire, WireState};
 use sheet::read::read_sheet;

@@ -1,4 +1,6 @@
 // The path book: one byte a port.
+#![tactic(auto)]
+
 ghost use Rattle.std.specs.Prelude.{◌≡◌, is_some, MatchOption};
 ghost use Rattle.rows.specs.Rows.{no_rows};
 ghost use Rattle.rows.specs.Views.{rows_of};

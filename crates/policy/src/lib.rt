@@ -1,4 +1,6 @@
 // Policies: which of the permitted ports is picked.
+#![tactic(auto)]
+
 pub mod free;
 pub mod lowest;
 mod mask;

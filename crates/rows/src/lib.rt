@@ -1,4 +1,6 @@
 // The table of rows that every address book keeps.
+#![tactic(auto)]
+
 ghost use Rattle.std.specs.Prelude.{◌≡◌, length};
 
 use lists::PortList;

@@ -1,4 +1,6 @@
 // The run book: pairs of port and count, each for so many equal ports in a row.
+#![tactic(auto)]
+
 ghost use Rattle.std.specs.Prelude.{◌≡◌, ℕ, ◌≤◌, List, length, is_some, IfSome, MatchOption};
 ghost use Rattle.rows.specs.Rows.{both_same, no_rows};
 ghost use Rattle.rows.specs.Views.{rows_of};

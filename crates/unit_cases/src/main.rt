@@ -1,6 +1,8 @@
 // Carries out the calls on standard input, one to a line, on both address books or on all policies,
 // and prints the answers, to be compared with those of an independent calculation. A line is a word
 // and numbers below 256; `new` begins with new books and policies.
+#![tactic(auto)]
+
 use bench::Bench;
 use call::read_call;
 use std::alloc::{AllocError, Global};

@@ -7,8 +7,8 @@ use Rattle.text.proofs.cut.cut_word.Goals as goal
 pub returns-then-skipped-left : goal.returns-then-skipped-left
 returns-then-skipped-left c =
     let none =
-    words_none c.part-of-left.result.now (omega (arith, prefix_len-le-length space c.part-of-left.result.now)) in
-    ap words (sym c.part-of-left.ensures) ∙ none
+    words_none c.part_of-left.result.now (omega (arith, prefix_len-le-length space c.part_of-left.result.now)) in
+    ap words (sym c.part_of-left.ensures) ∙ none
 
 pub overflow-add-place : goal.overflow-add-place
 overflow-add-place c =
@@ -29,7 +29,7 @@ overflow-add-result c =
 pub returns : goal.returns
 returns c =
     let n =
-    word_next c.args.text.now c.part-of-left.result.now c.args.at c.args.end
+    word_next c.args.text.now c.part_of-left.result.now c.args.at c.args.end
     c.spaces-skipped.result c.until-size.result
-    c.part-of-left.ensures c.spaces-skipped.ensures c.if-skipped-left.false c.until-size.ensures in
+    c.part_of-left.ensures c.spaces-skipped.ensures c.if-skipped-left.false c.until-size.ensures in
     record { word = n.word; long = omega (arith, n.long) }

@@ -9,7 +9,7 @@ loop-byte-preserved c =
     let d = all_drop_more digit c.args.bytes.now c.loop-byte.byte-index (search rules) in
     let l = all_drop_more letter c.args.bytes.now c.loop-byte.byte-index (search rules) in
     let b = get_or c.args.bytes.now c.loop-byte.byte-index 0 in
-    elim c.match-byte-class.branch [
+    elim c.match-byte_class.branch [
       | in-Digits w ↦ let t = digits_tell b w.in-Digits.ensures in let x = w.digits-is in let y = w.letters-is in (grind arith, grind arith)
       | in-Letters w ↦ let t = letters_tell b w.in-Letters.ensures in let x = w.digits-is in let y = w.letters-is in (grind arith, grind arith)
       | in-Mixed w ↦ let t = mixed_tell b w.in-Mixed.ensures in let x = w.digits-is in let y = w.letters-is in (grind arith, grind arith)
