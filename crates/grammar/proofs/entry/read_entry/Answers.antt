@@ -5,5 +5,5 @@ use Rattle.grammar.proofs.entry.read_entry.Goals as goal
 
 pub returns-in-None : goal.returns-in-None
 returns-in-None c =
-    let head = c.line-head.ensures ∙ ap head_of c.keyword.ensures ∙ head_same c.in-Some.first c.in-Some.ensures.kind in
+    let head = c.line_head.ensures ∙ ap head_of c.keyword.ensures ∙ head_same c.in-Some.first c.in-Some.ensures.kind in
     search rules

@@ -11,7 +11,7 @@ pub returns : goal.returns
 returns c =
     let l = c.args.list.now in
     let size = ap length c.ports-ports.ensures.value in
-    let exact = c.copy-first.ensures ∙ ap (λ bytes. headed bytes c.args.memory.now) c.ports-ports.ensures.value in
+    let exact = c.copy_first.ensures ∙ ap (λ bytes. headed bytes c.args.memory.now) c.ports-ports.ensures.value in
     record {
       size = size;
       exact = exact;

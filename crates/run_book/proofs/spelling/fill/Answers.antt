@@ -10,8 +10,8 @@ pub returns : goal.returns
 returns c =
     let l = c.args.list.now in
     let same = ap runs c.ports.ensures.value in
-    let size = c.write-runs.ensures.size ∙ ap length same in
-    let exact = c.write-runs.ensures.memory
+    let size = c.write_runs.ensures.size ∙ ap length same in
+    let exact = c.write_runs.ensures.memory
     ∙ ap (λ n. runs c.ports.result.now ++ drop n c.args.memory.now) size
     ∙ ap (λ bytes. bytes ++ drop (length (runs (ports_of l))) c.args.memory.now) same in
     let short = length_ports l in

@@ -10,12 +10,12 @@ loop-i-init c = runs_begin (ports_of c.args.list.now) c.args.bytes.now c.require
 
 pub loop-i-preserved : goal.loop-i-preserved
 loop-i-preserved c =
-    runs_more (ports_of c.loop-i.list) _ c.args.bytes.now c.loop-i.i (omega arith) c.if-not-push-run.ensures
+    runs_more (ports_of c.loop-i.list) _ c.args.bytes.now c.loop-i.i (omega arith) c.if-not-push_run.ensures
     ∙ c.loop-i.invariant
 
-pub returns-then-not-push-run : goal.returns-then-not-push-run
-returns-then-not-push-run c =
-    let e = runs_stop (ports_of c.loop-i.list) c.args.bytes.now c.loop-i.i (omega arith) c.if-not-push-run.ensures
+pub returns-then-not-push_run : goal.returns-then-not-push_run
+returns-then-not-push_run c =
+    let e = runs_stop (ports_of c.loop-i.list) c.args.bytes.now c.loop-i.i (omega arith) c.if-not-push_run.ensures
     ∙ c.loop-i.invariant in
     record { value = e; cut = λ pieces k. e ∙ cut_same k }
 

@@ -6,13 +6,13 @@ use Rattle.run_book.specs.RunSpelling.{run_some, write_behind, write_end, write_
 use Rattle.run_book.proofs.spelling.write_runs.Goals as goal
 
 -- the run that a turn of the loop writes
-count_is : (c : goal.After-run-length-count)
-    → c.run-length-count.result ≡ prefix_len (eqb (get_or c.args.ports.now c.loop-at.at 0)) (drop c.loop-at.at c.args.ports.now)
+count_is : (c : goal.After-run_length-count)
+    → c.run_length-count.result ≡ prefix_len (eqb (get_or c.args.ports.now c.loop-at.at 0)) (drop c.loop-at.at c.args.ports.now)
 count_is c =
-    c.run-length-count.ensures.value
+    c.run_length-count.ensures.value
     ∙ ap (prefix_len (eqb (get_or c.args.ports.now c.loop-at.at 0))) (take_rest c.args.ports.now c.loop-at.at)
 
-count_some : (c : goal.After-run-length-count) → 1 ≤ c.run-length-count.result
+count_some : (c : goal.After-run_length-count) → 1 ≤ c.run_length-count.result
 count_some c = omega (arith, count_is c, run_some c.args.ports.now c.loop-at.at c.loop-at-test.true)
 
 pub loop-at-smaller : goal.loop-at-smaller
@@ -29,7 +29,7 @@ loop-at-preserved c =
         prefix_len-le-length (eqb (get_or c.args.ports.now c.loop-at.at 0)) (drop c.loop-at.at c.args.ports.now),
       ),
       omega (arith, c.loop-at.invariant.1),
-      write_more c.args.ports.now c.loop-at.memory c.loop-at.at c.loop-at.size c.run-length-count.result
+      write_more c.args.ports.now c.loop-at.memory c.loop-at.at c.loop-at.size c.run_length-count.result
           c.loop-at-test.true room (count_is c) c.loop-at.invariant.2,
       write_behind c.args.ports.now c.loop-at.memory c.args.memory.now c.loop-at.size _ _ room c.loop-at.invariant.3,
     )

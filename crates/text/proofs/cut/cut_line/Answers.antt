@@ -5,8 +5,8 @@ use Rattle.text.proofs.cut.cut_line.Goals as goal
 pub returns-then-start-text : goal.returns-then-start-text
 returns-then-start-text c = lines_none c.args.text.now c.args.start (omega arith)
 
-pub overflow-add-end : goal.overflow-add-end
-overflow-add-end c = omega (arith, line_bound c.args.text.now c.args.start c.until.result (omega arith) c.until.ensures)
+pub overflow_add-end : goal.overflow_add-end
+overflow_add-end c = omega (arith, line_bound c.args.text.now c.args.start c.until.result (omega arith) c.until.ensures)
 
 pub returns-then-end-text : goal.returns-then-end-text
 returns-then-end-text c =

@@ -10,20 +10,20 @@ returns-then-skipped-left c =
     words_none c.part_of-left.result.now (omega (arith, prefix_len-le-length space c.part_of-left.result.now)) in
     ap words (sym c.part_of-left.ensures) ∙ none
 
-pub overflow-add-place : goal.overflow-add-place
-overflow-add-place c =
+pub overflow_add-place : goal.overflow_add-place
+overflow_add-place c =
     let n =
-    word_next c.args.text.now c.part-of-left.result.now c.args.at c.args.end
+    word_next c.args.text.now c.part_of-left.result.now c.args.at c.args.end
     c.spaces-skipped.result c.until-size.result
-    c.part-of-left.ensures c.spaces-skipped.ensures c.if-skipped-left.false c.until-size.ensures in
+    c.part_of-left.ensures c.spaces-skipped.ensures c.if-skipped-left.false c.until-size.ensures in
     omega (arith, n.bound)
 
-pub overflow-add-result : goal.overflow-add-result
-overflow-add-result c =
+pub overflow_add-result : goal.overflow_add-result
+overflow_add-result c =
     let n =
-    word_next c.args.text.now c.part-of-left.result.now c.args.at c.args.end
+    word_next c.args.text.now c.part_of-left.result.now c.args.at c.args.end
     c.spaces-skipped.result c.until-size.result
-    c.part-of-left.ensures c.spaces-skipped.ensures c.if-skipped-left.false c.until-size.ensures in
+    c.part_of-left.ensures c.spaces-skipped.ensures c.if-skipped-left.false c.until-size.ensures in
     omega (arith, n.bound)
 
 pub returns : goal.returns
