@@ -9,8 +9,8 @@ use crate::rule::Policy;
 // to the front of `picks`. What is behind them stays. Answers how many there are.
 pub fn pick_each<P: Policy>(policy: &mut P, offers: &[Offer], picks: &mut [u8]) -> usize
     ensures count { result ≡ min (length offers.now) (length picks.old) }
-    ensures written { picks.new ≡ picks_of rule (state policy.old) (take result offers.now) ++ drop result picks.old }
-    ensures state { state policy.new ≡ state_after rule (state policy.old) (take result offers.now) }
+    ensures written { picks.new ≡ picks_of P.rule (P.state policy.old) (take result offers.now) ++ drop result picks.old }
+    ensures state { P.state policy.new ≡ state_after P.rule (P.state policy.old) (take result offers.now) }
 {
     let count = offers.len().min(picks.len());
     for i in 0..count {
