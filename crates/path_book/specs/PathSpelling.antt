@@ -1,8 +1,8 @@
 -- The path spelling of a list.
-use Rattle.std.specs.Prelude.{◌≡◌, ℕ, zero, suc, ◌+◌, ◌<◌, ◌≤◌, Bool, true, false, cond, ◌&&◌, leb, List, [], ◌∷◌, ◌++◌, length, drop, Some, None, Option, nat_le, nat_lt, slice_index, slice_index_or, refl}
-use Rattle.std.proofs.Common.{arith, inl, inr, ⊎_elim, sym, ◌∙◌, ap, subst}
+use Rattle.std.specs.Prelude.{◌≡◌, ℕ, ◌+◌, ◌<◌, ◌≤◌, true, false, ◌&&◌, leb, List, [], ◌∷◌, ◌++◌, length, drop, Some, None, nat_le, nat_lt, slice_index, slice_index_or}
+use Rattle.std.proofs.Common.{arith, inl, inr, ⊎_elim, subst}
 use Rattle.std.proofs.lemmas.List.{append_assoc, drop_more, length-append}
-use Rattle.std.proofs.lemmas.Bool.{and_cases, and_from, and_left, and_parts, and_right, cases_Bool, le-leb, le-ltb, leb-true, lt-leb, lt-ltb, ltb-false, ltb-true}
+use Rattle.std.proofs.lemmas.Bool.{and_cases, and_left, and_parts, and_right, cases_Bool, le-leb, le-ltb, leb-true, lt-leb, ltb-false}
 use Rattle.lists.specs.Lists.{all_ports, pushed, takes}
 use Rattle.rows.specs.Rows.{listed}
 use Rattle.lists.specs.Views.{ports_of}

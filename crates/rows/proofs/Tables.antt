@@ -3,7 +3,7 @@ use Rattle.std.proofs.Common.{◌≡◌, ℕ, ◌<◌, ◌≤◌, List, [], leng
 use mathlib.Core.Path.{fun_ext}
 use Rattle.std.proofs.lemmas.List.{get_or_past, get_or-set_same, get_or-set_other}
 use Rattle.std.proofs.lemmas.Bool.{cases_eq, eq-eqb, ne_eqb}
-use Rattle.rows.specs.Rows.{Rows, listed, no_rows, with_row}
+use Rattle.rows.specs.Rows.{listed, no_rows, with_row}
 use Rattle.lists.specs.Views.{ports_of, ports_in}
 use Rattle.rows.specs.Views.{rows_in, rows_of}
 use Rattle.lists.specs.declared.PortList.{PortList}

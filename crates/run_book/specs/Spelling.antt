@@ -1,5 +1,5 @@
 -- The run spelling: pairs of port and count, each for so many equal ports in a row.
-use Rattle.std.specs.Prelude.{ℕ, suc, ◌+◌, ◌<◌, Bool, cond, ◌&&◌, List, [], ◌∷◌, ◌++◌, length, replicate, Some, None, Option, ◌==◌, nat_le, nat_lt}
+use Rattle.std.specs.Prelude.{ℕ, suc, ◌+◌, ◌<◌, cond, ◌&&◌, List, [], ◌∷◌, ◌++◌, length, replicate, Some, None, Option, ◌==◌, nat_le, nat_lt}
 
 -- a list behind another, if there is one
 abbrev pub behind : List ℕ → Option (List ℕ) → Option (List ℕ)

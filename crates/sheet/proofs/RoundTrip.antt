@@ -20,7 +20,7 @@ use Rattle.grammar.specs.declared.fault.SheetFault.{SheetFault}
 use Rattle.sheet.specs.declared.counts.Counts.{Counts}
 use Rattle.sheet.proofs.Reading.{read_none, read_on, sheet_short}
 use Rattle.sheet.proofs.Taking.{added_more}
-use Rattle.text.specs.Text.{line_check, words}
+use Rattle.text.specs.Text.{line_check}
 use Rattle.text.specs.Writing.{digits, ended_lines, spaced}
 use Rattle.text.proofs.Written.{AllLines, AllSolid, Solid, length_ended, length_ended_none, length_spaced, length_spaced_one, lines_ended, spaced_one_line, spaced_printable, spelled, words_spaced}
 
