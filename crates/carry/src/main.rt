@@ -7,6 +7,7 @@ use sheet::counts::Counts;
 use sheet::read::{SHEET_BYTES, read_sheet};
 use std::fs::File;
 use std::io::Read;
+use std::process::ExitCode;
 use std::{env, io};
 
 const USAGE: &str = "usage: carry SHEET";
@@ -20,9 +21,17 @@ struct Request {
     sheet: String,
 }
 
-fn main(rt: HostRuntime) -> anyhow::Result<()> {
-    match asked(&rt) {
-        Ok(request) => carry(&rt, &request),
+fn main(rt: HostRuntime) -> ExitCode {
+    match run(&rt) {
+        Ok(()) => ExitCode::SUCCESS,
+        Err(_) => ExitCode::FAILURE,
+    }
+}
+
+// Does what is asked. An error has been told where it was found.
+fn run(rt: &HostRuntime) -> anyhow::Result<()> {
+    match asked(rt) {
+        Ok(request) => carry(rt, &request),
         Err(e) => {
             eprintln!(rt; "carry: {e}")?;
             eprintln!(rt; "{USAGE}")?;

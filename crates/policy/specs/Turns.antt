@@ -1,6 +1,6 @@
 -- What it means that a rule goes round the ports of a mask and passes over none.
 use Rattle.std.specs.Prelude.{◌≡◌, ℕ, Bool, true, false, cond, ◌||◌, List, [], ◌∷◌, ◌==◌, ◌≢◌}
-use Rattle.std.specs.List.{AllByRecursion as All}
+use Rattle.std.specs.List.{AllByRecursion}
 use Rattle.policy.specs.Masks.{has}
 use Rattle.policy.specs.Picks.{picks_at}
 use Rattle.policy.specs.declared.offer.Offer.{Offer}
@@ -17,7 +17,7 @@ before port (p ∷ ps) = cond (p == port) [] (p ∷ before port ps)
 
 -- every offer at the board permits this mask; offers at other boards may permit any
 abbrev pub Unchanged : ℕ → ℕ → List Offer → Type 0
-Unchanged board mask offers = All (λ o. o.board ≡ board → o.permitted ≡ mask) offers
+Unchanged board mask offers = AllByRecursion (λ o. o.board ≡ board → o.permitted ≡ mask) offers
 
 -- Of a state just after the port was picked at the board: whatever offers follow, at whatever boards,
 -- as long as the mask at this board stays, if the port is picked there again, then every other port
