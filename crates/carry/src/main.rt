@@ -9,6 +9,7 @@ use std::fs::File;
 use std::io::Read;
 use std::process::ExitCode;
 use std::{env, io};
+use thiserror::Error;
 
 const USAGE: &str = "usage: carry SHEET";
 
@@ -19,6 +20,19 @@ const WIRES: usize = 512;
 #[derive(Drop)]
 struct Request {
     sheet: String,
+}
+
+// Why nothing can be done with the arguments.
+#[derive(Debug, Drop, Error)]
+enum Misuse {
+    #[error("unknown option {0}")]
+    UnknownOption(String),
+    #[error("more than one sheet")]
+    SecondSheet,
+    #[error("no sheet")]
+    NoSheet,
+    #[error(transparent)]
+    Unread(#[from] io::Error),
 }
 
 fn main(rt: HostRuntime) -> ExitCode {
@@ -32,29 +46,29 @@ fn main(rt: HostRuntime) -> ExitCode {
 fn run(rt: &HostRuntime) -> anyhow::Result<()> {
     match asked(rt) {
         Ok(request) => carry(rt, &request),
-        Err(e) => {
-            eprintln!(rt; "carry: {e}")?;
+        Err(misuse) => {
+            eprintln!(rt; "carry: {misuse}")?;
             eprintln!(rt; "{USAGE}")?;
-            Err(e)
+            Err(anyhow!("misused"))
         }
     }
 }
 
 // The one argument, a sheet's path.
-fn asked(rt: &HostRuntime) -> anyhow::Result<Request> {
+fn asked(rt: &HostRuntime) -> Result<Request, Misuse> {
     let mut sheet = None;
     for word in env::args(rt)?.skip(1) {
         if word.as_str().starts_with("-") {
-            return Err(anyhow!(format!(in rt.alloc(); "unknown option {word}")?));
+            return Err(Misuse::UnknownOption(word));
         }
         if sheet.is_some() {
-            return Err(anyhow!("more than one sheet"));
+            return Err(Misuse::SecondSheet);
         }
         sheet = Some(word);
     }
     match sheet {
         Some(sheet) => Ok(Request { sheet }),
-        None => Err(anyhow!("no sheet")),
+        None => Err(Misuse::NoSheet),
     }
 }
 

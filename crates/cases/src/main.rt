@@ -11,6 +11,7 @@ use sheet::read::read_sheet;
 use std::alloc::Global;
 use std::io;
 use std::io::{BufRead, BufReader};
+use std::process::ExitCode;
 
 // What a record of the table holds before the reading, and no sheet can put there.
 const UNTOUCHED: End = End {
@@ -24,9 +25,17 @@ const BLANK: Wire = Wire {
     state: WireState::Dead,
 };
 
-fn main(rt: HostRuntime) -> anyhow::Result<()> {
+fn main(rt: HostRuntime) -> ExitCode {
+    match judge_all(&rt) {
+        Ok(()) => ExitCode::SUCCESS,
+        Err(_) => ExitCode::FAILURE,
+    }
+}
+
+// Reads the sheets, one from each line.
+fn judge_all(rt: &HostRuntime) -> anyhow::Result<()> {
     for line in BufReader::new(rt.alloc(), rt.stdin())?.lines(rt.alloc()) {
-        judge(&rt, line?.as_str())?;
+        judge(rt, line?.as_str())?;
     }
     Ok(())
 }
