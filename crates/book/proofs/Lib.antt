@@ -1,2 +1,2 @@
-pub mod Spelled
+pub mod Pushed
 pub mod Written

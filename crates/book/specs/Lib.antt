@@ -1,3 +1,4 @@
 pub mod Checks
 pub mod Memory
 pub mod Reading
+pub mod Views

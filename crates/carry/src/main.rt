@@ -2,7 +2,7 @@
 #![tactic(auto)]
 
 use anyhow::anyhow;
-use plan::wire::{End, Wire, WireState};
+use plan::wire::Wire;
 use sheet::counts::Counts;
 use sheet::read::{SHEET_BYTES, read_sheet};
 use std::fs::File;
@@ -66,10 +66,8 @@ fn asked(rt: &HostRuntime) -> Result<Request, Misuse> {
         }
         sheet = Some(word);
     }
-    match sheet {
-        Some(sheet) => Ok(Request { sheet }),
-        None => Err(Misuse::NoSheet),
-    }
+    let sheet = sheet.ok_or(Misuse::NoSheet)?;
+    Ok(Request { sheet })
 }
 
 // Reads the sheet and prints what it holds, or the refusal.
@@ -82,25 +80,16 @@ fn carry(rt: &HostRuntime, request: &Request) -> anyhow::Result<()> {
             return Err(e.into());
         }
     };
-    let mut table = [NO_WIRE; WIRES];
+    let mut table = [Wire::default(); WIRES];
     match read_sheet(bytes.as_slice(), &mut table) {
-        Ok(counts) => print_plan(rt, counts, &table),
+        Ok(counts) => Ok(print_plan(rt, counts, &table)?),
         Err(fault) => {
             let refusal = fault.refusal();
-            let (layer, number, place) = (refusal.layer, refusal.number, refusal.place);
-            println!(rt; "refused: layer {layer}, number {number}, place {place} ({fault})")?;
+            println!(rt; "refused: {refusal} ({fault})")?;
             Err(anyhow!("refused"))
         }
     }
 }
-
-const NO_END: End = End { board: 0, port: 0 };
-
-const NO_WIRE: Wire = Wire {
-    first: NO_END,
-    second: NO_END,
-    state: WireState::Dead,
-};
 
 // The sheet's bytes, one more at most than a sheet may have, so that any file will do.
 fn sheet_bytes(rt: &HostRuntime, path: &str) -> io::Result<Vec<u8>> {
@@ -110,21 +99,10 @@ fn sheet_bytes(rt: &HostRuntime, path: &str) -> io::Result<Vec<u8>> {
     Ok(bytes)
 }
 
-fn print_plan(rt: &HostRuntime, counts: Counts, table: &[Wire]) -> anyhow::Result<()> {
-    let (boards, wires) = (counts.boards, counts.wires);
-    println!(rt; "read {boards} boards, {wires} wires")?;
-    for (number, wire) in table.iter().take(wires).enumerate() {
-        print!(rt; "wire {number}: ")?;
-        print_end(rt, wire.first)?;
-        print!(rt; ", ")?;
-        print_end(rt, wire.second)?;
-        let state = wire.state.name();
-        println!(rt; ", {state}")?;
+fn print_plan(rt: &HostRuntime, counts: Counts, table: &[Wire]) -> io::Result<()> {
+    println!(rt; "read {counts}")?;
+    for (number, wire) in table.iter().take(counts.wires).enumerate() {
+        println!(rt; "wire {number}: {wire}")?;
     }
     Ok(())
-}
-
-fn print_end(rt: &HostRuntime, end: End) -> io::Result<()> {
-    let (board, port) = (end.board, end.port);
-    print!(rt; "board {board} port {port}")
 }

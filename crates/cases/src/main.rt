@@ -13,7 +13,8 @@ use std::io;
 use std::io::{BufRead, BufReader};
 use std::process::ExitCode;
 
-// What a record of the table holds before the reading, and no sheet can put there.
+// What a record of the table holds before the reading, and no sheet can put there. No `Option`: the
+// table that `read_sheet` is lent has plain records.
 const UNTOUCHED: End = End {
     board: 255,
     port: 255,
@@ -48,14 +49,11 @@ fn judge(rt: &HostRuntime, line: &str) -> anyhow::Result<()> {
     let sheet = decoded(rt.alloc(), text)?;
     let mut table = vec![in rt.alloc(); BLANK; room.parse::<usize>()?]?;
     match read_sheet(sheet.as_slice(), table.as_mut_slice()) {
-        Ok(counts) => {
-            let (boards, wires) = (counts.boards, counts.wires);
-            print!(rt; "{boards} boards, {wires} wires")?;
-        }
+        Ok(counts) => print!(rt; "{counts}")?,
         Err(fault) => {
+            // The line that `carry` prints too; no crate is shared for this one line.
             let refusal = fault.refusal();
-            let (layer, number, place) = (refusal.layer, refusal.number, refusal.place);
-            print!(rt; "refused: layer {layer}, number {number}, place {place} ({fault})")?;
+            print!(rt; "refused: {refusal} ({fault})")?;
         }
     }
     print_records(rt, table.as_slice())?;
@@ -63,16 +61,17 @@ fn judge(rt: &HostRuntime, line: &str) -> anyhow::Result<()> {
     Ok(())
 }
 
-// Every record of the table that was written.
+// Every record of the table that was written, in the bare numbers of the independent reader, and so
+// not by `Display`.
 fn print_records(rt: &HostRuntime, table: &[Wire]) -> io::Result<()> {
     for (number, wire) in table.iter().enumerate() {
         let (first, second) = (wire.first, wire.second);
-        if first.board != UNTOUCHED.board {
+        if first != UNTOUCHED {
             print!(rt; "; {number}")?;
             for n in [first.board, first.port, second.board, second.port] {
                 print!(rt; " {n}")?;
             }
-            let state = wire.state.name();
+            let state = wire.state;
             print!(rt; " {state}")?;
         }
     }
@@ -97,27 +96,23 @@ fn decoded(heap: Global, text: &str) -> anyhow::Result<Vec<u8>> {
     Ok(bytes)
 }
 
+// The kit's `hex` also takes capital letters and refuses a digit left over, and what this program
+// takes stays as it was.
 fn push_hex(bytes: &mut Vec<u8>, digits: &[u8]) -> anyhow::Result<()> {
-    let mut high = None;
-    for digit in digits {
-        let Some(low) = hex_value(*digit) else {
-            return Err(anyhow!("not a hexadecimal digit"));
-        };
-        match high {
-            None => high = Some(low),
-            Some(value) => {
-                bytes.push(value.wrapping_mul(16).wrapping_add(low))?;
-                high = None;
-            }
-        }
+    let (pairs, left) = digits.as_chunks::<2>();
+    for [high, low] in pairs {
+        bytes.push(hex_value(*high)? << 4 | hex_value(*low)?)?;
+    }
+    for digit in left {
+        hex_value(*digit)?;
     }
     Ok(())
 }
 
-fn hex_value(digit: u8) -> Option<u8> {
+fn hex_value(digit: u8) -> anyhow::Result<u8> {
     match digit {
-        b'0'..=b'9' => Some(digit - b'0'),
-        b'a'..=b'f' => Some(digit - b'a' + 10),
-        _ => None,
+        b'0'..=b'9' => Ok(digit - b'0'),
+        b'a'..=b'f' => Ok(digit - b'a' + 10),
+        _ => Err(anyhow!("not a hexadecimal digit")),
     }
 }

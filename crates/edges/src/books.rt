@@ -1,14 +1,16 @@
 // The edges of address books.
 use book::Book;
+use lists::ListFault;
 use path_book::PathBook;
+use rows::RowFault;
 use run_book::RunBook;
 use std::process::Abort;
 
 // Gives row 0 the list 1 1 1 1.
 fn four_ones<B: Book>(rt: &impl Abort, book: &mut B) {
-    assert!(rt; book.start(0));
+    assert!(rt; book.start(0).is_ok());
     for _ in 0..4 {
-        assert!(rt; book.extend(0, 0, 1));
+        assert!(rt; book.extend(0, 0, 1).is_ok());
     }
     assert_eq!(rt; book.depth(0), Some(4));
 }
@@ -35,10 +37,29 @@ fn a_path_is_its_ports(rt: HostRuntime) {
 #[test]
 fn rows_end_at_127(rt: HostRuntime) {
     let mut book = PathBook::new();
-    assert!(rt; book.start(127));
-    assert!(rt; !book.start(128));
-    assert!(rt; book.extend(127, 127, 7));
-    assert!(rt; !book.extend(127, 127, 8));
-    assert!(rt; !book.extend(128, 127, 7));
+    assert!(rt; book.start(127).is_ok());
+    assert!(rt; book.start(128).is_err());
+    assert!(rt; book.extend(127, 127, 7).is_ok());
+    assert!(rt; book.extend(127, 127, 8).is_err());
+    assert!(rt; book.extend(128, 127, 7).is_err());
     assert_eq!(rt; book.depth(128), None);
+}
+
+#[test]
+fn a_refusal_says_why(rt: HostRuntime) {
+    let mut book = RunBook::new();
+    assert_eq!(rt; book.start(128), Err(RowFault::NoRow));
+    assert_eq!(rt; book.extend(0, 5, 1), Err(RowFault::NoList));
+    assert!(rt; book.start(0).is_ok());
+    assert_eq!(rt;
+        book.extend(0, 0, 8),
+        Err(RowFault::InList(ListFault::NoPort))
+    );
+    for _ in 0..127 {
+        assert!(rt; book.extend(0, 0, 1).is_ok());
+    }
+    assert_eq!(rt;
+        book.extend(0, 0, 8),
+        Err(RowFault::InList(ListFault::Full))
+    );
 }

@@ -1,43 +1,34 @@
 // The edges of the sheet format, one by one.
-use plan::wire::{End, Wire, WireState};
+use plan::fault::Refusal;
+use plan::wire::Wire;
+use sheet::counts::Counts;
 use sheet::read::read_sheet;
 use std::process::Abort;
 use std::test::Fail;
 
-const NO_END: End = End { board: 0, port: 0 };
-
-const BLANK: Wire = Wire {
-    first: NO_END,
-    second: NO_END,
-    state: WireState::Dead,
-};
-
 // That a sheet is refused, in a table of two records.
 fn refused(rt: &impl Abort, sheet: &[u8], number: u8, place: usize) -> Result<(), Fail> {
-    let mut table = [BLANK; 2];
-    match read_sheet(sheet, &mut table) {
-        Ok(_) => Err(Fail::new("taken")),
-        Err(fault) => {
-            let refusal = fault.refusal();
-            assert_eq!(rt; refusal.layer, 1);
-            assert_eq!(rt; refusal.number, number);
-            assert_eq!(rt; refusal.place, place);
-            Ok(())
-        }
-    }
+    let mut table = [Wire::default(); 2];
+    let Err(fault) = read_sheet(sheet, &mut table) else {
+        return Err(Fail::new("taken"));
+    };
+    let refusal = Refusal {
+        layer: 1,
+        number,
+        place,
+    };
+    assert_eq!(rt; fault.refusal(), refusal);
+    Ok(())
 }
 
 // That a sheet is taken, in a table of two records.
 fn taken(rt: &impl Abort, sheet: &[u8], boards: u8, wires: usize) -> Result<(), Fail> {
-    let mut table = [BLANK; 2];
-    match read_sheet(sheet, &mut table) {
-        Ok(counts) => {
-            assert_eq!(rt; counts.boards, boards);
-            assert_eq!(rt; counts.wires, wires);
-            Ok(())
-        }
-        Err(_) => Err(Fail::new("refused")),
-    }
+    let mut table = [Wire::default(); 2];
+    let Ok(counts) = read_sheet(sheet, &mut table) else {
+        return Err(Fail::new("refused"));
+    };
+    assert_eq!(rt; counts, Counts { boards, wires });
+    Ok(())
 }
 
 #[test]

@@ -2,10 +2,8 @@
 ghost use Rattle.std.specs.Prelude.{◌≡◌, true, false, length, MatchOption, ◌==◌, nat_lt};
 ghost use Rattle.grammar.specs.Entries.{boards_entry, end_numbers, entry_of, head_of, state_of, wire_entry};
 ghost use Rattle.grammar.specs.Keyword.{Five, One, Two, keyword_bytes};
-ghost use Rattle.std.specs.Str.{bytes_eq};
 ghost use Rattle.plan.specs.Answers.{lift};
-ghost use Rattle.text.specs.Text.{words};
-ghost use Rattle.text.specs.Views.{bytes_of, kind_of, line_bytes, number_of, word_class};
+ghost use Rattle.text.specs.Views.{IsClassified, bytes_of, line_bytes, number_of, words_left};
 ghost use Rattle.grammar.specs.declared.fault.SheetFault.TheVariants.{InLine};
 ghost use Rattle.text.specs.declared.fault.LineFault.TheVariants.{InWord};
 
@@ -15,7 +13,8 @@ use text::fault::LineFault;
 use text::line::Line;
 use text::word::Word;
 
-// What a line's first word makes of it.
+// What a line's first word makes of it: a type of its own, as the definition `entry_of` tells the lines
+// apart by it.
 #[derive(Clone, Copy)]
 pub enum Head {
     BoardsLine,
@@ -23,14 +22,14 @@ pub enum Head {
     NoteLine,
 }
 
-// A board and a port, as numbers that may be out of range.
+// A board and a port of a sheet, up to 999 and maybe out of range: so no `End`, which has bytes.
 #[derive(Clone, Copy)]
 pub struct EndNumbers {
     pub board: u16,
     pub port: u16,
 }
 
-// A `wire` line. No state: the word is not one of a state.
+// A `wire` line. No `Wire`, since the state may be none: then the word is not one of a state.
 #[derive(Clone, Copy)]
 pub struct WireEntry {
     pub first: EndNumbers,
@@ -49,57 +48,29 @@ pub enum Entry {
     Wires(WireEntry),
 }
 
-// The bytes of a keyword; no other word is one.
-fn keyword<'a>(word: Word<'a>) -> &'a [u8]
-    ensures { result.now ≡ keyword_bytes word.entry }
+// What a line with this first word is. No `TryFrom`: its error would hold no more than none does.
+fn line_head(word: Word) -> Option<Head>
+    ensures { result ≡ head_of (keyword_bytes word.entry) }
 {
     match word {
-        Word::Keyword(bytes, _) => bytes,
-        Word::Number(_, _) => &[],
-        Word::Text(_, _) => &[],
+        Word::Keyword(b"boards", _) => Some(Head::BoardsLine),
+        Word::Keyword(b"wire", _) => Some(Head::WireLine),
+        Word::Keyword(b"note", _) => Some(Head::NoteLine),
+        _ => None,
     }
 }
 
-// Whether the two are the same bytes.
-fn same(bytes: &[u8], word: &[u8]) -> bool
-    ensures { result ≡ bytes_eq bytes.now word.now }
+// The state that a word names. No `TryFrom`, for the same reason.
+fn wire_state(word: Word) -> Option<WireState>
+    ensures { result ≡ state_of (keyword_bytes word.entry) }
 {
-    bytes == word
-}
-
-// What a line with this first word is.
-fn line_head(name: &[u8]) -> Option<Head>
-    ensures { result ≡ head_of name.now }
-{
-    if same(name, b"boards") {
-        return Some(Head::BoardsLine);
+    match word {
+        Word::Keyword(b"ok", _) => Some(WireState::Whole),
+        Word::Keyword(b"out", _) => Some(WireState::OutOnly),
+        Word::Keyword(b"back", _) => Some(WireState::BackOnly),
+        Word::Keyword(b"dead", _) => Some(WireState::Dead),
+        _ => None,
     }
-    if same(name, b"wire") {
-        return Some(Head::WireLine);
-    }
-    if same(name, b"note") {
-        return Some(Head::NoteLine);
-    }
-    None
-}
-
-// The state that a word names.
-fn wire_state(name: &[u8]) -> Option<WireState>
-    ensures { result ≡ state_of name.now }
-{
-    if same(name, b"ok") {
-        return Some(WireState::Whole);
-    }
-    if same(name, b"out") {
-        return Some(WireState::OutOnly);
-    }
-    if same(name, b"back") {
-        return Some(WireState::BackOnly);
-    }
-    if same(name, b"dead") {
-        return Some(WireState::Dead);
-    }
-    None
 }
 
 // The number that a word stands for.
@@ -111,7 +82,7 @@ fn number(word: Word, line: usize) -> Result<u16, LineFault>
 
 // `boards N` behind the first word: one, a number.
 fn boards_entry(line: Line) -> Result<Entry, SheetFault>
-    ensures { result ≡ boards_entry line.entry.number (words (line_bytes line.entry)) }
+    ensures { result ≡ boards_entry line.entry.number (words_left line.entry) }
 {
     let Some(count) = only_word(line) else {
         return Err(SheetFault::WordCount(line.number));
@@ -122,7 +93,7 @@ fn boards_entry(line: Line) -> Result<Entry, SheetFault>
 
 // A board and a port.
 fn end_numbers(board: Word, port: Word, line: usize) -> Result<EndNumbers, LineFault>
-    ensures { kind_of board.entry ≡ word_class (bytes_of board.entry) → kind_of port.entry ≡ word_class (bytes_of port.entry) → lift InLine result ≡ end_numbers line (bytes_of board.entry) (bytes_of port.entry) }
+    ensures { IsClassified board.entry → IsClassified port.entry → lift InLine result ≡ end_numbers line (bytes_of board.entry) (bytes_of port.entry) }
 {
     let board = board.number(line)?;
     let port = port.number(line)?;
@@ -141,7 +112,7 @@ struct WireWords<'a> {
 
 // The one word that is left; none where there are more or fewer.
 fn only_word<'a>(mut line: Line<'a>) -> Option<Word<'a>>
-    ensures { MatchOption result ((length (words (line_bytes line.entry)) == 1) ≡ false) (λ w. One w (words (line_bytes line.entry))) }
+    ensures { MatchOption result ((length (words_left line.entry) == 1) ≡ false) (λ w. One w (words_left line.entry)) }
 {
     let word = line.next_word()?;
     match line.next_word() {
@@ -152,7 +123,7 @@ fn only_word<'a>(mut line: Line<'a>) -> Option<Word<'a>>
 
 // Two words more; none where there are fewer.
 fn two_words<'a>(line: &mut Line<'a>) -> Option<(Word<'a>, Word<'a>)>
-    ensures { MatchOption result (nat_lt (length (words (line_bytes line.old))) 2 ≡ true) (λ w. Two w.0 w.1 (words (line_bytes line.old)) (words (line_bytes line.new))) }
+    ensures { MatchOption result (nat_lt (length (words_left line.old)) 2 ≡ true) (λ w. Two w.0 w.1 (words_left line.old) (words_left line.new)) }
 {
     let one = line.next_word()?;
     let two = line.next_word()?;
@@ -161,7 +132,7 @@ fn two_words<'a>(line: &mut Line<'a>) -> Option<(Word<'a>, Word<'a>)>
 
 // Five words; none where there are more or fewer.
 fn wire_words<'a>(mut line: Line<'a>) -> Option<WireWords<'a>>
-    ensures { MatchOption result ((length (words (line_bytes line.entry)) == 5) ≡ false) (λ w. Five w.a w.p w.b w.q w.s (words (line_bytes line.entry))) }
+    ensures { MatchOption result ((length (words_left line.entry) == 5) ≡ false) (λ w. Five w.a w.p w.b w.q w.s (words_left line.entry)) }
 {
     let (a, p) = two_words(&mut line)?;
     let (b, q) = two_words(&mut line)?;
@@ -171,14 +142,14 @@ fn wire_words<'a>(mut line: Line<'a>) -> Option<WireWords<'a>>
 
 // `wire A P B Q S` behind the first word: four numbers and a state.
 fn wire_entry(line: Line) -> Result<Entry, SheetFault>
-    ensures { result ≡ wire_entry line.entry.number (words (line_bytes line.entry)) }
+    ensures { result ≡ wire_entry line.entry.number (words_left line.entry) }
 {
     let Some(words) = wire_words(line) else {
         return Err(SheetFault::WordCount(line.number));
     };
     let first = end_numbers(words.a, words.p, line.number)?;
     let second = end_numbers(words.b, words.q, line.number)?;
-    let state = wire_state(keyword(words.s));
+    let state = wire_state(words.s);
     Ok(Entry::Wires(WireEntry {
         first,
         second,
@@ -195,7 +166,8 @@ pub fn read_entry(line: &Line) -> Result<Entry, SheetFault>
     let Some(first) = rest.next_word() else {
         return Ok(Entry::Skip);
     };
-    match line_head(keyword(first)) {
+    // No closures: the definition `entry_of` tells the lines apart by these cases.
+    match line_head(first) {
         Some(Head::BoardsLine) => boards_entry(rest),
         Some(Head::WireLine) => wire_entry(rest),
         Some(Head::NoteLine) => Ok(Entry::Skip),

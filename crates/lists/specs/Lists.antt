@@ -1,7 +1,9 @@
 -- Lists of ports: at most 127, each 0 to 7.
-use Rattle.std.specs.Prelude.{ℕ, Bool, true, false, cond, ◌&&◌, List, [], ◌∷◌, ◌++◌, length, nat_eq, nat_lt}
+use Rattle.std.specs.Prelude.{ℕ, Bool, true, cond, ◌&&◌, List, [], ◌∷◌, ◌++◌, length, Ok, Err, Result, nat_eq, nat_lt}
 use Rattle.std.specs.List.{common_prefix_len}
 use Rattle.std.specs.Str.{bytes_eq}
+use Rattle.lists.specs.declared.fault.ListFault.{ListFault}
+use Rattle.lists.specs.declared.fault.ListFault.TheVariants.{Full, NoPort}
 
 -- whether each is a port, 0 to 7
 unfoldable pub all_ports : List ℕ → Bool
@@ -12,9 +14,10 @@ all_ports (port ∷ ports) = nat_lt port 8 && all_ports ports
 abbrev pub takes : List ℕ → ℕ → Bool
 takes list port = nat_lt (length list) 127 && nat_lt port 8
 
--- one port more at the end, or no and nothing changed
-abbrev pub pushed : ℕ → List ℕ → Bool × List ℕ
-pushed port list = cond (takes list port) (true, list ++ port ∷ []) (false, list)
+-- one port more at the end, or why not, and nothing changed
+abbrev pub pushed : ℕ → List ℕ → Result (Unit {0}) ListFault × List ℕ
+pushed port list =
+    cond (nat_lt (length list) 127) (cond (nat_lt port 8) (Ok tt, list ++ port ∷ []) (Err NoPort, list)) (Err Full, list)
 
 -- whether two lists are the same
 abbrev pub same : List ℕ → List ℕ → Bool

@@ -1,9 +1,9 @@
 // Making lists of ports, and looking at them.
-ghost use Rattle.std.specs.Prelude.{◌≡◌, ◌<◌, ◌≤◌, false, [], ◌∷◌, ◌++◌, length};
+ghost use Rattle.std.specs.Prelude.{◌≡◌, ◌≤◌, [], length, OnErr};
 ghost use Rattle.lists.specs.Lists.{pushed};
 ghost use Rattle.lists.specs.Views.{ports_of};
 
-use super::{LONGEST, PORTS, PortList};
+use super::{LONGEST, ListFault, PORTS, PortList};
 
 impl PortList {
     // The empty list.
@@ -21,28 +21,22 @@ impl PortList {
         ensures value { result.now ≡ ports_of self.now }
         ensures bound { length result.now ≤ 127 }
     {
-        &self.ports[0..self.len as usize]
+        &self.ports[..usize::from(self.len)]
     }
 
-    // One port more at the end.
-    fn put(&mut self, port: u8)
-        requires { (length (ports_of self.old) < 127) × (port < 8) }
-        ensures { ports_of self.new ≡ ports_of self.old ++ port ∷ [] }
-    {
-        self.ports[self.len as usize] = port;
-        self.len += 1;
-    }
-
-    // One port more at the end; no, and nothing changed, where the list has 127 ports or the port is
-    // above 7.
-    pub fn push(&mut self, port: u8) -> bool
+    // One port more at the end; nothing changes where the list does not take it.
+    pub fn push(&mut self, port: u8) -> Result<(), ListFault>
         ensures answer { (result, ports_of self.new) ≡ pushed port (ports_of self.old) }
-        ensures kept { result ≡ false → self.new ≡ self.old }
+        ensures kept { OnErr result (self.new ≡ self.old) }
     {
-        if self.len >= LONGEST || port >= PORTS {
-            return false;
+        if self.len >= LONGEST {
+            return Err(ListFault::Full);
         }
-        self.put(port);
-        true
+        if port >= PORTS {
+            return Err(ListFault::NoPort);
+        }
+        self.ports[usize::from(self.len)] = port;
+        self.len += 1;
+        Ok(())
     }
 }

@@ -1,9 +1,11 @@
 // Wires between the ports of boards.
-ghost use Rattle.std.specs.Prelude.{◌≡◌};
-ghost use Rattle.plan.specs.Plan.{counted, end_at};
+ghost use Rattle.std.specs.Prelude.{◌≡◌, Some};
+ghost use Rattle.plan.specs.Plan.{counted, end_at, end_fits};
+ghost use Rattle.plan.specs.Printed.{end_text, wire_text};
 ghost use Rattle.plan.specs.States.{state_word};
 
 use crate::fault::PlanFault;
+use std::fmt;
 
 // The most boards a plan may have. Boards are numbered from 0.
 pub const BOARDS: u16 = 128;
@@ -12,14 +14,14 @@ pub const BOARDS: u16 = 128;
 pub const PORTS: u16 = 8;
 
 // One end of a wire: a port of a board.
-#[derive(Clone, Copy)]
+#[derive(Clone, Copy, Default, PartialEq, Eq)]
 pub struct End {
     pub board: u8,
     pub port: u8,
 }
 
 // In which directions a wire works.
-#[derive(Clone, Copy)]
+#[derive(Clone, Copy, Default)]
 pub enum WireState {
     // Both directions work.
     Whole,
@@ -28,11 +30,12 @@ pub enum WireState {
     // Only from the second end to the first.
     BackOnly,
     // Neither direction works.
+    #[default]
     Dead,
 }
 
 impl WireState {
-    // The word for a state.
+    // The word for a state. It stays beside `Display`, as a public call.
     pub fn name(self) -> &'static str
         ensures { result.now ≡ state_word self }
     {
@@ -45,8 +48,8 @@ impl WireState {
     }
 }
 
-// A wire joins two ports.
-#[derive(Clone, Copy)]
+// A wire joins two ports. By default it works in no direction: a record that no wire was written to.
+#[derive(Clone, Copy, Default)]
 pub struct Wire {
     pub first: End,
     pub second: End,
@@ -60,6 +63,7 @@ pub fn board_count(number: u16, place: usize) -> Result<u8, PlanFault>
     if number < 1 || number > BOARDS {
         return Err(PlanFault::OutOfRange(place));
     }
+    // No `try_from`: it would add a way to fail.
     Ok(number as u8)
 }
 
@@ -68,12 +72,53 @@ impl End {
     pub fn at(count: u8, board: u16, port: u16, place: usize) -> Result<End, PlanFault>
         ensures { result ≡ end_at count board port place }
     {
-        if board >= u16::from(count) || port >= PORTS {
-            return Err(PlanFault::OutOfRange(place));
+        match (u8::try_from(board), u8::try_from(port)) {
+            (Ok(board), Ok(port)) => End { board, port }.checked(count, place),
+            _ => Err(PlanFault::OutOfRange(place)),
         }
-        Ok(End {
-            board: board as u8,
-            port: port as u8,
-        })
+    }
+
+    // The end itself, if it is at a board below `count` and a port below 8.
+    fn checked(self, count: u8, place: usize) -> Result<End, PlanFault>
+        ensures { result ≡ end_at count self.board self.port place }
+    {
+        if self.fits(count) {
+            Ok(self)
+        } else {
+            Err(PlanFault::OutOfRange(place))
+        }
+    }
+
+    // Whether it is at a board below `count` and a port below 8.
+    pub(crate) fn fits(self, count: u8) -> bool
+        ensures { result ≡ end_fits count self }
+    {
+        self.board < count && u16::from(self.port) < PORTS
+    }
+}
+
+impl fmt::Display for End {
+    ghost output = { λ e. Some (end_text e) };
+
+    fn fmt<W: fmt::Write>(&self, f: &mut fmt::Formatter<W>) -> fmt::Result {
+        let (board, port) = (self.board, self.port);
+        write!(f, "board {board} port {port}")
+    }
+}
+
+impl fmt::Display for WireState {
+    ghost output = { λ s. Some (state_word s) };
+
+    fn fmt<W: fmt::Write>(&self, f: &mut fmt::Formatter<W>) -> fmt::Result {
+        f.write_str(self.name())
+    }
+}
+
+impl fmt::Display for Wire {
+    ghost output = { λ w. Some (wire_text w) };
+
+    fn fmt<W: fmt::Write>(&self, f: &mut fmt::Formatter<W>) -> fmt::Result {
+        let (first, second, state) = (self.first, self.second, self.state);
+        write!(f, "{first}, {second}, {state}")
     }
 }

@@ -1,5 +1,5 @@
 -- Masks of the ports 0 to 7: numbers below 256, with bit p for port p.
-use Rattle.std.specs.Prelude.{ℕ, ◌+◌, ◌*◌, ◌/◌, ◌%◌, ◌^◌, Bool, cond, List, [], ◌∷◌, ◌==◌}
+use Rattle.std.specs.Prelude.{ℕ, ◌+◌, ◌*◌, ◌/◌, ◌%◌, ◌^◌, Bool, cond, List, [], ◌∷◌, Some, None, Option, ◌==◌}
 
 -- whether the mask has the port
 unfoldable pub has : ℕ → ℕ → Bool
@@ -13,6 +13,10 @@ first_of mask (p ∷ ps) = cond (has mask p) p (first_of mask ps)
 -- the lowest port of the mask; 0 if it has none
 unfoldable pub lowest : ℕ → ℕ
 lowest mask = first_of mask (0 ∷ 1 ∷ 2 ∷ 3 ∷ 4 ∷ 5 ∷ 6 ∷ 7 ∷ [])
+
+-- the lowest port of the mask, if it has one
+abbrev pub lowest_in : ℕ → Option ℕ
+lowest_in mask = cond (mask == 0) None (Some (lowest mask))
 
 -- the lowest preferred port, or the lowest of the others if none is preferred
 abbrev pub lowest_of : ℕ → ℕ → ℕ

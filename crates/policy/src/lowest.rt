@@ -2,7 +2,7 @@
 ghost use Rattle.policy.specs.Rules.{lowest_rule};
 ghost use Rattle.policy.specs.Lows.{lowest_has};
 
-use crate::mask::lowest_port;
+use crate::mask::{NONE_PERMITTED, lowest_port};
 use crate::offer::Offer;
 use crate::rule::Policy;
 
@@ -19,7 +19,8 @@ impl Policy for Lowest {
 
     ghost permitted = { λ s o small free some. lowest_has o.permitted small some };
 
+    #[tactic(auto, using(crate::specs::Lows::lowest_or))]
     fn pick(&mut self, offer: Offer) -> u8 {
-        lowest_port(offer.permitted)
+        lowest_port(offer.permitted).unwrap_or(NONE_PERMITTED)
     }
 }

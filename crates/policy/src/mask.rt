@@ -1,28 +1,31 @@
 // The ports of masks.
 ghost use Rattle.std.specs.Prelude.{◌≡◌};
-ghost use Rattle.policy.specs.Masks.{above, lowest, lowest_of};
+ghost use Rattle.policy.specs.Masks.{above, lowest_in, lowest_of};
 
 // The highest port of a board.
 pub(crate) const HIGHEST_PORT: u8 = 7;
 
-// The lowest port of the mask; 0 if it has none.
-pub(crate) fn lowest_port(mask: u8) -> u8
-    ensures { result ≡ lowest mask }
+// What a policy answers where no port is permitted, as its rule wants.
+pub(crate) const NONE_PERMITTED: u8 = 0;
+
+// The lowest port of the mask.
+pub(crate) fn lowest_port(mask: u8) -> Option<u8>
+    ensures { result ≡ lowest_in mask }
 {
     if mask == 0 {
-        return 0;
+        return None;
     }
-    mask.trailing_zeros() as u8
+    // No `try_from`: it would add a way to fail.
+    Some(mask.trailing_zeros() as u8)
 }
 
 // The lowest preferred port, or the lowest of the others if none is preferred.
 pub(crate) fn lowest_port_of(preferred: u8, others: u8) -> u8
     ensures { result ≡ lowest_of preferred others }
 {
-    if preferred == 0 {
-        return lowest_port(others);
-    }
     lowest_port(preferred)
+        .or(lowest_port(others))
+        .unwrap_or(NONE_PERMITTED)
 }
 
 // The ports of the mask above this one.

@@ -13,8 +13,9 @@ pub fn pick_each<P: Policy>(policy: &mut P, offers: &[Offer], picks: &mut [u8]) 
     ensures state { P.state policy.new ≡ state_after P.rule (P.state policy.old) (take result offers.now) }
 {
     let count = offers.len().min(picks.len());
-    for i in 0..count {
-        picks[i] = policy.pick(offers[i]);
+    // Tried `zip` with `picks.iter_mut()`: after it a proof knows the length of `picks`, not its bytes.
+    for (i, offer) in offers[..count].iter().enumerate() {
+        picks[i] = policy.pick(*offer);
     }
     count
 }

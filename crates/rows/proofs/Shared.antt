@@ -1,17 +1,14 @@
 -- The leading ports that two lists share.
-use Rattle.std.proofs.Common.{◌≡◌, ℕ, ◌≤◌, min, List, [], ◌∷◌, length, drop, refl, ⊎_elim, arith}
-use Rattle.std.proofs.lemmas.List.{drop_all}
-use Rattle.std.proofs.lemmas.Bool.{cases_lt}
+use Rattle.std.proofs.Common.{◌≡◌, ℕ, ◌+◌, Bool, cond, eqb, List, [], ◌∷◌, refl, ap}
+use Rattle.std.specs.List.{prefix_len, zip}
 use Rattle.lists.specs.Lists.{shared}
 
--- two lists share no more where one of them ends
-shared_nil : (xs : List ℕ) → shared xs [] ≡ 0
-shared_nil [] = refl
-shared_nil (x ∷ xs) = refl
+-- whether the two ports of a pair are equal
+abbrev pub both_equal : ℕ × ℕ → Bool
+both_equal p = eqb p.0 p.1
 
-pub shared_end : (a b : List ℕ) (i : ℕ) → min (length a) (length b) ≤ i → shared (drop i a) (drop i b) ≡ 0
-shared_end a b i h =
-    ⊎_elim
-    (λ inside. rw (drop_all i b (omega arith)) (shared_nil (drop i a)))
-    (λ past. rw (drop_all i a past))
-    (cases_lt i (length a))
+-- the leading equal pairs of the two lists, taken side by side
+pub shared_zip : (a b : List ℕ) → prefix_len both_equal (zip a b) ≡ shared a b
+shared_zip [] b = refl
+shared_zip (x ∷ a) [] = refl
+shared_zip (x ∷ a) (y ∷ b) = ap (λ n. cond (eqb x y) (1 + n) 0) (shared_zip a b)

@@ -1,6 +1,9 @@
 -- What an address book holds: for each row nothing or a list of ports; and what becomes of it.
-use Rattle.std.specs.Prelude.{ℕ, Bool, true, false, cond, List, [], ◌∷◌, ◌++◌, length, Some, None, Option, ◌==◌, nat_lt}
-use Rattle.lists.specs.Lists.{takes, same, shared}
+use Rattle.std.specs.Prelude.{ℕ, Bool, false, cond, List, [], length, Some, None, Option, Ok, Err, Result, ◌==◌, nat_lt}
+use Rattle.lists.specs.Lists.{pushed, same, shared}
+use Rattle.lists.specs.declared.fault.ListFault.{ListFault}
+use Rattle.rows.specs.declared.fault.RowFault.{RowFault}
+use Rattle.rows.specs.declared.fault.RowFault.TheVariants.{InList, NoList, NoRow}
 
 abbrev pub Rows : Type 0
 Rows = ℕ → Option (List ℕ)
@@ -13,18 +16,23 @@ no_rows row = None
 abbrev pub with_row : ℕ → List ℕ → Rows → Rows
 with_row row list m r = cond (r == row) (Some list) (m r)
 
--- a row becomes the empty list: yes, unless the row is above 127
-abbrev pub started : ℕ → Rows → Bool × Rows
-started row m = cond (nat_lt row 128) (true, with_row row [] m) (false, m)
+-- a row becomes the empty list, unless the row is above 127
+abbrev pub started : ℕ → Rows → Result (Unit {0}) RowFault × Rows
+started row m = cond (nat_lt row 128) (Ok tt, with_row row [] m) (Err NoRow, m)
 
--- a row becomes a source row's list with one port more: yes, unless the row is above 127 or that
--- list is not there or cannot take the port
-abbrev pub grown : ℕ → Option (List ℕ) → ℕ → Rows → Bool × Rows
-grown row (Some list) port m = cond (takes list port) (true, with_row row (list ++ port ∷ []) m) (false, m)
-grown row None port m = (false, m)
+-- a row has the list that a push left, or is as it was where the push was refused
+abbrev pub placed : ℕ → Result (Unit {0}) ListFault × List ℕ → Rows → Result (Unit {0}) RowFault × Rows
+placed row (Ok _, list) m = (Ok tt, with_row row list m)
+placed row (Err fault, list) m = (Err (InList fault), m)
 
-abbrev pub extended : ℕ → ℕ → ℕ → Rows → Bool × Rows
-extended row source port m = cond (nat_lt row 128) (grown row (m source) port m) (false, m)
+-- a row becomes a source row's list with one port more, unless the row is above 127 or that list is
+-- not there or cannot take the port
+abbrev pub grown : ℕ → Option (List ℕ) → ℕ → Rows → Result (Unit {0}) RowFault × Rows
+grown row (Some list) port m = placed row (pushed port list) m
+grown row None port m = (Err NoList, m)
+
+abbrev pub extended : ℕ → ℕ → ℕ → Rows → Result (Unit {0}) RowFault × Rows
+extended row source port m = cond (nat_lt row 128) (grown row (m source) port m) (Err NoRow, m)
 
 -- how many ports a row's list has
 abbrev pub depth_of : Option (List ℕ) → Option ℕ

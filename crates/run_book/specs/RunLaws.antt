@@ -1,6 +1,6 @@
 -- What is true of the run spelling: a list written is read back, nothing shorter spells it, and where
 -- its runs are cut makes no difference.
-use Rattle.std.specs.Prelude.{◌≡◌, ℕ, zero, suc, ◌+◌, ◌*◌, ◌<◌, ◌≤◌, true, cond, ◌&&◌, ltb, List, [], ◌∷◌, ◌++◌, length, replicate, Some, None, Option, ◌==◌, ◌≢◌, nat_le, nat_lt, slice_index, refl}
+use Rattle.std.specs.Prelude.{◌≡◌, ℕ, zero, suc, ◌+◌, ◌*◌, ◌<◌, ◌≤◌, true, cond, ◌&&◌, ltb, List, [], ◌∷◌, ◌++◌, length, replicate, is_some, Some, None, Option, ◌==◌, ◌≢◌, nat_le, nat_lt, slice_index, refl}
 use Rattle.std.proofs.Common.{arith, inl, inr, sym, ◌∙◌, ap, subst}
 use Rattle.std.proofs.lemmas.List.{append_assoc, length-append, length-replicate, replicate-append-replicate}
 use Rattle.std.proofs.lemmas.Bool.{and_from, and_parts, cases_Bool, cond_both, eqb-true, le-leb, leb-true, lt-ltb, ltb-true}
@@ -186,6 +186,11 @@ pub run_widest : (bytes list : List ℕ) → run_list bytes ≡ Some list → le
 unfolding run_list
 run_widest bytes list e =
     let f = fitting_some (expanded bytes) list e in omega (arith, f.1, expanded_widest bytes list f.0)
+
+-- the widest spelling: 127 ports 1, as pairs with count 1
+pub run_reached : (bytes : List ℕ) × (is_some (run_list bytes) ≡ true) × (length bytes ≡ 254)
+unfolding run_list expanded
+run_reached = (replicate 254 1, refl, refl)
 
 replicate_fit : (port count : ℕ) (ports : List ℕ) → port < 8 → ((k : ℕ) → slice_index ports k < 8)
     → (k : ℕ) → slice_index (replicate count port ++ ports) k < 8

@@ -1,12 +1,14 @@
 -- The run spelling of a list: reading and writing it.
-use Rattle.std.specs.Prelude.{◌≡◌, ℕ, suc, ◌+◌, ◌*◌, ◌<◌, ◌≤◌, true, false, ◌&&◌, ltb, leb, List, [], ◌∷◌, ◌++◌, length, take, drop, replicate, Some, None, Option, ◌==◌, nat_eq, nat_le, nat_lt, slice_index, slice_index_or, slice_set, refl}
-use Rattle.std.proofs.Common.{one-add, arith, inl, inr, sym, ◌∙◌, ap, subst}
+use Rattle.std.specs.Prelude.{◌≡◌, ℕ, zero, suc, ◌+◌, ◌-◌, ◌*◌, ◌/◌, ◌%◌, ◌<◌, ◌≤◌, true, false, ◌&&◌, ltb, leb, List, [], ◌∷◌, ◌++◌, length, take, drop, replicate, Some, None, Ok, Option, ◌==◌, nat_eq, nat_le, nat_lt, slice_index, slice_set, refl}
+use Rattle.std.proofs.Common.{cond, get_or, one-add, arith, inl, inr, sym, ◌∙◌, ap, subst}
 use Rattle.std.proofs.lemmas.List.{append_assoc, append-nil, drop_all, drop-drop, drop_more, drop-set-lt, length-append, length-replicate, length-set, length-take-le, replicate_more, take-append-drop, take_more_set}
 use Rattle.std.proofs.lemmas.List.Sums.{prefix_len-drop_yes}
-use Rattle.std.proofs.lemmas.Bool.{and_cases, and_from, and_right, both_ways, cases_Bool, eq-eqb, eqb-true, cond-false, cond-true, le-leb, leb-false, lt-leb, lt-ltb, ltb-false}
-use Rattle.std.specs.List.{prefix_len}
+use Rattle.std.proofs.lemmas.Bool.{and_cases, and_from, and_right, both_ways, cases_Bool, eq-eqb, eqb-false, eqb-true, cond-false, cond-true, le-leb, leb-false, lt-leb, lt-ltb, ltb-false}
+use Rattle.std.specs.List.{IsChunkByPrefix, prefix_len}
+use Rattle.std.specs.Simd.{first_chunks}
+use Rattle.book.specs.Memory.{headed}
+use Rattle.book.proofs.Pushed.{pushed_yes}
 use Rattle.lists.specs.Lists.{pushed, takes}
-use Rattle.lists.proofs.PortLists.{pushed_yes}
 use Rattle.run_book.specs.Spelling.{behind, expanded, fitting, in_front, run_list, runs, with_run}
 
 -- what is left of reading, after one run
@@ -37,7 +39,7 @@ run_step list port count pairs =
     ]
 
 -- one port more of a run
-pub run_more : (start list after : List ℕ) (port i : ℕ) → list ≡ start ++ replicate i port → (true, after) ≡ pushed port list
+pub run_more : (start list after : List ℕ) (port i : ℕ) → list ≡ start ++ replicate i port → (Ok tt, after) ≡ pushed port list
     → after ≡ start ++ replicate (i + 1) port
 run_more start list after port i e p =
     pushed_yes port list after p
@@ -76,6 +78,7 @@ runs_begin list bytes e = rw e (ap fitting (nothing_in_front (expanded bytes)))
     nothing_in_front (Some l) = refl
     nothing_in_front None = refl
 
+-- the two bytes at a place, and the bytes behind them
 next_pair : (bytes : List ℕ) (i : ℕ) → 2 * i + 1 < length bytes
     → drop (2 * i) bytes ≡ slice_index bytes (2 * i) ∷ slice_index bytes (2 * i + 1) ∷ drop (2 * (i + 1)) bytes
 next_pair bytes i h =
@@ -84,21 +87,37 @@ next_pair bytes i h =
     let e : 2 * i + 1 + 1 ≡ 2 * (i + 1) = omega arith in
     a ∙ ap (λ l. slice_index bytes (2 * i) ∷ l) (b ∙ ap (λ n. slice_index bytes (2 * i + 1) ∷ drop n bytes) e)
 
+-- the bytes as pairs: the next pair, and the bytes behind it
+pair_at : (bytes : List ℕ) (n i : ℕ) → i < n → 2 * n ≤ length bytes
+    → drop (2 * i) bytes ≡ get_or (get_or (first_chunks 2 n bytes) i []) 0 0 ∷ get_or (get_or (first_chunks 2 n bytes) i []) 1 0 ∷ drop (2 * (i + 1)) bytes
+pair_at bytes zero i within fits = absurd (omega arith)
+pair_at [] (suc n) i within fits = absurd (omega arith)
+pair_at (a ∷ []) (suc n) i within fits = absurd (omega arith)
+pair_at (a ∷ b ∷ bytes) (suc n) zero within fits = refl
+pair_at (a ∷ b ∷ bytes) (suc n) (suc i) within fits =
+    let here : 2 * suc i ≡ suc (suc (2 * i)) = omega arith in
+    let next : 2 * (suc i + 1) ≡ suc (suc (2 * (i + 1))) = omega arith in
+    rw (here, next) (pair_at bytes n i (omega arith) (omega arith))
+
+pub next_chunk : (bytes : List ℕ) (pairs : List (List ℕ)) (i : ℕ) → pairs ≡ first_chunks 2 (length bytes / 2) bytes → i < length bytes / 2
+    → drop (2 * i) bytes ≡ get_or (get_or pairs i []) 0 0 ∷ get_or (get_or pairs i []) 1 0 ∷ drop (2 * (i + 1)) bytes
+next_chunk bytes pairs i e within = rw e (pair_at bytes (length bytes / 2) i within (omega arith))
+
 -- one pair read, and one that is no run or too long
-pub runs_more : (list after bytes : List ℕ) (i : ℕ) → 2 * i + 1 < length bytes
-    → Some after ≡ with_run list (slice_index bytes (2 * i)) (slice_index bytes (2 * i + 1))
+pub runs_more : (list after bytes : List ℕ) (port count i : ℕ) → drop (2 * i) bytes ≡ port ∷ count ∷ drop (2 * (i + 1)) bytes
+    → Some after ≡ with_run list port count
     → fitting (behind after (expanded (drop (2 * (i + 1)) bytes))) ≡ fitting (behind list (expanded (drop (2 * i) bytes)))
-runs_more list after bytes i h e =
-    sym (ap (λ l. fitting (behind list (expanded l))) (next_pair bytes i h)
-    ∙ run_step list (slice_index bytes (2 * i)) (slice_index bytes (2 * i + 1)) (drop (2 * (i + 1)) bytes)
+runs_more list after bytes port count i next e =
+    sym (ap (λ l. fitting (behind list (expanded l))) next
+    ∙ run_step list port count (drop (2 * (i + 1)) bytes)
     ∙ ap (λ o. onward o (drop (2 * (i + 1)) bytes)) (sym e))
 
-pub runs_stop : (list bytes : List ℕ) (i : ℕ) → 2 * i + 1 < length bytes
-    → None ≡ with_run list (slice_index bytes (2 * i)) (slice_index bytes (2 * i + 1))
+pub runs_stop : (list bytes : List ℕ) (port count i : ℕ) → drop (2 * i) bytes ≡ port ∷ count ∷ drop (2 * (i + 1)) bytes
+    → None ≡ with_run list port count
     → None ≡ fitting (behind list (expanded (drop (2 * i) bytes)))
-runs_stop list bytes i h e =
-    sym (ap (λ l. fitting (behind list (expanded l))) (next_pair bytes i h)
-    ∙ run_step list (slice_index bytes (2 * i)) (slice_index bytes (2 * i + 1)) (drop (2 * (i + 1)) bytes)
+runs_stop list bytes port count i next e =
+    sym (ap (λ l. fitting (behind list (expanded l))) next
+    ∙ run_step list port count (drop (2 * (i + 1)) bytes)
     ∙ ap (λ o. onward o (drop (2 * (i + 1)) bytes)) (sym e))
 
 -- all pairs read: a byte left over, or none
@@ -114,6 +133,14 @@ unfolding expanded
 runs_end list bytes n h short =
     let room = le-leb (length list) 127 short in
     rw (drop_all n bytes h, append-nil list, room)
+
+pub runs_all : (list bytes : List ℕ) (left : ℕ) → left ≡ length bytes % 2 → length list ≤ 127
+    → cond (left == 0) (Some list) None ≡ fitting (behind list (expanded (drop (2 * (length bytes / 2)) bytes)))
+runs_all list bytes left e short =
+    elim (cases_Bool (left == 0)) [
+      | inl none ↦ rw none (runs_end list bytes (2 * (length bytes / 2)) (omega (arith, eqb-true left 0 none)) short)
+      | inr some ↦ rw some (runs_left list bytes (2 * (length bytes / 2)) (omega (arith, eqb-false left 0 some)))
+    ]
 
 -- one port in front of pairs
 pub runs_cons : (port : ℕ) (ports : List ℕ) → runs (port ∷ ports) ≡ in_front port (runs ports)
@@ -187,6 +214,39 @@ module _ (ports : List ℕ) (at : ℕ) (within : at < length ports) where
       ∙ ap (λ l. here ∷ (1 + k) ∷ runs l) (drop-drop k (at + 1) ports ∙ ap (λ m. drop m ports) n)
       ∙ ap (λ m. here ∷ m ∷ runs (drop (at + prefix_len (nat_eq here) (drop at ports)) ports)) (sym e)
 
+-- one port in front of a run of the same port
+in_front_equal : (port first count : ℕ) (pairs : List ℕ) → (port == first) ≡ true → in_front port (first ∷ count ∷ pairs) ≡ port ∷ suc count ∷ pairs
+unfolding in_front
+in_front_equal port first count pairs same = rw same
+
+-- a run of equal ports that ends where the next port is another, or the list ends
+run_ahead : (run rest : List ℕ) → 0 < length run
+    → ((k : ℕ) → suc k < length run → (get_or (run ++ rest) k 0 == get_or (run ++ rest) (suc k) 0) ≡ true)
+    → ((k : ℕ) → suc k ≡ length run → suc k < length (run ++ rest) → (get_or (run ++ rest) k 0 == get_or (run ++ rest) (suc k) 0) ≡ false)
+    → runs (run ++ rest) ≡ get_or run 0 0 ∷ length run ∷ runs rest
+run_ahead [] rest some equal ends = absurd (omega arith)
+run_ahead (port ∷ []) [] some equal ends = runs_one port
+run_ahead (port ∷ []) (next ∷ rest) some equal ends =
+    let below = runs_first next rest in
+    runs_cons port (next ∷ rest)
+    ∙ ap (in_front port) below
+    ∙ in_front_other port next _ _ (ends 0 refl (omega arith))
+    ∙ ap (λ l. port ∷ 1 ∷ l) (sym below)
+run_ahead (port ∷ next ∷ run) rest some equal ends =
+    runs_cons port (next ∷ run ++ rest)
+    ∙ ap (in_front port) (run_ahead (next ∷ run) rest (omega arith) (λ k h. equal (suc k) (omega arith)) (λ k e h. ends (suc k) (ap suc e) (omega arith)))
+    ∙ in_front_equal port next (length (next ∷ run)) (runs rest) (equal 0 (omega arith))
+
+pub runs_ahead : (all run rest : List ℕ) → all ≡ run ++ rest → 0 < length run → IsChunkByPrefix nat_eq all (length run)
+    → runs all ≡ get_or run 0 0 ∷ length run ∷ runs rest
+runs_ahead all run rest e some parts =
+    let P : List ℕ → Type 0 = λ l. IsChunkByPrefix nat_eq l (length run) in
+    let h : P (run ++ rest) = subst P e parts in
+    ap runs e
+    ∙ run_ahead run rest some
+    (λ k within. let s : k + 1 ≡ suc k = omega arith in rw s at (h.0 k 0 (omega arith)))
+    (λ k ends more. let s : suc k - 1 ≡ k = omega arith in let t = h.1 (omega arith) 0 in rw (← ends, s) at t)
+
 -- one pair written into memory
 module _ (memory : List ℕ) (n a b : ℕ) (room : n + 1 < length memory) where
   abbrev written : List ℕ
@@ -204,18 +264,14 @@ module _ (memory : List ℕ) (n a b : ℕ) (room : n + 1 < length memory) where
   drop_pair = drop-set-lt (n + 2) (slice_set memory n a) (n + 1) b (omega arith) ∙ drop-set-lt (n + 2) memory n a (omega arith)
 
 -- one run written
-pub write_more : (ports memory : List ℕ) (at n count : ℕ) → at < length ports → n + 1 < length memory
-    → count ≡ prefix_len (nat_eq (slice_index ports at)) (drop at ports)
-    → take n memory ++ runs (drop at ports) ≡ runs ports
-    → take (n + 2) (slice_set (slice_set memory n (slice_index ports at)) (n + 1) count) ++ runs (drop (at + count) ports) ≡ runs ports
-write_more ports memory at n count within room e before =
-    let here = slice_index_or ports at 0 in
-    let r : runs (drop at ports) ≡ here ∷ count ∷ runs (drop (at + count) ports) =
-    subst (λ k. runs (drop at ports) ≡ here ∷ k ∷ runs (drop (at + k) ports)) (sym e) (runs_at ports at within) in
-    ap (λ l. l ++ runs (drop (at + count) ports)) (take_pair memory n here count room)
-    ∙ append_assoc (take n memory) (here ∷ count ∷ []) (runs (drop (at + count) ports))
-    ∙ ap (λ l. take n memory ++ l) (sym r)
-    ∙ before
+pub write_more : (ports memory before after : List ℕ) (n port count : ℕ) → n + 1 < length memory
+    → runs before ≡ port ∷ count ∷ runs after → take n memory ++ runs before ≡ runs ports
+    → take (n + 2) (slice_set (slice_set memory n port) (n + 1) count) ++ runs after ≡ runs ports
+write_more ports memory before after n port count room run front =
+    ap (λ l. l ++ runs after) (take_pair memory n port count room)
+    ∙ append_assoc (take n memory) (port ∷ count ∷ []) (runs after)
+    ∙ ap (λ l. take n memory ++ l) (sym run)
+    ∙ front
 
 pub write_behind : (ports memory start : List ℕ) (n a b : ℕ) → n + 1 < length memory → drop n memory ≡ drop n start
     → drop (n + 2) (slice_set (slice_set memory n a) (n + 1) b) ≡ drop (n + 2) start
@@ -223,12 +279,14 @@ write_behind ports memory start n a b room before =
     drop_pair memory n a b room ∙ sym (drop-drop 2 n memory) ∙ ap (drop 2) before ∙ drop-drop 2 n start
 
 -- all runs written
-pub write_end : (ports memory start : List ℕ) (at n : ℕ) → length ports ≤ at → n ≤ length memory
-    → take n memory ++ runs (drop at ports) ≡ runs ports → drop n memory ≡ drop n start
-    → (n ≡ length (runs ports)) × (memory ≡ runs ports ++ drop n start)
+pub write_end : (ports memory start rest : List ℕ) (n : ℕ) → length rest ≡ 0 → n ≤ length memory
+    → take n memory ++ runs rest ≡ runs ports → drop n memory ≡ drop n start
+    → (n ≡ length (runs ports)) × (memory ≡ headed (runs ports) start)
 unfolding runs
-write_end ports memory start at n done fits front back =
-    let e : take n memory ≡ runs ports = sym (append-nil (take n memory)) ∙ ap (λ l. take n memory ++ runs l) (sym (drop_all at ports done)) ∙ front in (
-      sym (length-take-le n memory fits) ∙ ap length e,
-      sym (take-append-drop n memory) ∙ ap (λ l. l ++ drop n memory) e ∙ ap (λ l. runs ports ++ l) back,
+write_end ports memory start [] n done fits front back =
+    let e : take n memory ≡ runs ports = sym (append-nil (take n memory)) ∙ front in
+    let size : n ≡ length (runs ports) = sym (length-take-le n memory fits) ∙ ap length e in (
+      size,
+      sym (take-append-drop n memory) ∙ ap (λ l. l ++ drop n memory) e ∙ ap (λ l. runs ports ++ l) (back ∙ ap (λ k. drop k start) size),
     )
+write_end ports memory start (port ∷ rest) n done fits front back = absurd (omega arith)

@@ -1,108 +1,104 @@
 // The run book: pairs of port and count, each for so many equal ports in a row.
 #![tactic(auto)]
 
-ghost use Rattle.std.specs.Prelude.{◌≡◌, ℕ, ◌≤◌, List, length, is_some, IfSome, MatchOption};
-ghost use Rattle.rows.specs.Rows.{both_same, no_rows};
-ghost use Rattle.rows.specs.Views.{rows_of};
-ghost use Rattle.book.specs.Memory.{Written, put_row, writable};
+ghost use Rattle.std.specs.Prelude.{◌≡◌, ℕ, ◌≤◌, List, length, IfSome, Some};
+ghost use Rattle.std.specs.Option.{option_map};
+ghost use Rattle.lists.specs.Views.{ports_in, ports_of};
+ghost use Rattle.book.specs.Memory.{headed, put_first};
 ghost use Rattle.run_book.specs.Worked.{Worked};
-ghost use Rattle.run_book.specs.Spelling.{Cut, run_list, runs};
-ghost use Rattle.rows.proofs.Tables.{rows_short, rows_fit, rows_few};
-ghost use Rattle.run_book.specs.RunLaws.{run_short, run_fit, run_widest};
-ghost use Rattle.book.proofs.Spelled.{narrow_from};
+ghost use Rattle.run_book.specs.Spelling.{Cut, run_list, runs, with_run};
+ghost use Rattle.run_book.specs.RunLaws.{cut_same, run_fit, run_reached, run_short, run_widest, runs_read, runs_shortest};
 
-use book::Book;
-use rows::RowTable;
-
-mod spelling;
+use book::{SpelledBook, Spelling};
+use lists::{PORTS, PortList};
 
 // Spells a list by its runs of equal ports; every spelling is accepted, the shortest is written.
-#[derive(Drop)]
-pub struct RunBook {
-    rows: RowTable,
-}
+#[derive(Clone, Copy)]
+pub struct Runs;
 
-impl RunBook {
-    // No row has a list.
-    pub fn new() -> RunBook
-        ensures { rows_of result.rows ≡ no_rows }
-    {
-        RunBook {
-            rows: RowTable::new(),
-        }
+// The book of that spelling.
+pub type RunBook = SpelledBook<Runs>;
+
+// Adds a run to a list; none where it is no run, or there is no room for it.
+fn push_run(list: &mut PortList, port: u8, count: u8) -> Option<()>
+    ensures { option_map (λ _. ports_of list.new) result ≡ with_run (ports_of list.old) port count }
+{
+    if port >= PORTS || count == 0 {
+        return None;
     }
+    for _ in 0..count {
+        list.push(port).ok()?;
+    }
+    Some(())
 }
 
-impl Book for RunBook {
-    const WIDEST: usize = spelling::WIDEST;
+// Writes the pairs of the ports first in memory, as few as can be, and answers how many bytes they
+// are.
+fn write_runs(ports: &[u8], memory: &mut [u8]) -> usize
+    requires { (length ports.now ≤ 127) × (254 ≤ length memory.old) }
+    ensures size { result ≡ length (runs ports.now) }
+    ensures memory { memory.new ≡ headed (runs ports.now) memory.old }
+{
+    // Tried `zip` with `chunks_exact_mut(2)`, after which a proof knows only how long memory is.
+    let mut size = 0;
+    for run in ports.chunk_by(|a, b| a == b) {
+        memory[size] = run[0];
+        // No `try_from`: it would add a way to fail.
+        memory[size + 1] = run.len() as u8;
+        size += 2;
+    }
+    size
+}
 
-    ghost widest = { 254 };
+impl Spelling for Runs {
+    const WIDEST: usize = 254;
 
-    ghost rows = { λ b. rows_of b.rows };
+    ghost WIDEST = { 254 };
 
     ghost spelled = { run_list };
 
-    ghost short = { λ b row. rows_short b.rows row };
+    ghost chosen = { runs };
 
-    ghost ports = { λ b row at. rows_fit b.rows row at };
+    ghost Alike = { Cut };
 
-    ghost few = { λ b row h. rows_few b.rows row h };
+    ghost read_back = { runs_read };
 
-    ghost spelled_short = { λ bytes. run_short bytes };
+    ghost spelled_short = { run_short };
 
-    ghost spelled_ports = { λ bytes at. run_fit bytes at };
+    ghost spelled_ports = { run_fit };
 
-    ghost narrow = { λ bytes h. narrow_from run_list bytes _ (run_widest bytes) h };
+    ghost narrow = { run_widest };
 
-    fn most() -> usize {
-        Self::WIDEST
-    }
+    ghost reached = { run_reached };
 
-    fn clear(&mut self) {
-        self.rows.clear();
-    }
+    ghost shortest = { runs_shortest };
 
-    fn start(&mut self, row: u8) -> bool {
-        self.rows.start(row)
-    }
+    ghost alike = { λ one other cut. cut_same cut };
 
-    fn extend(&mut self, row: u8, source: u8, port: u8) -> bool {
-        self.rows.extend(row, source, port)
-    }
-
-    fn depth(&self, row: u8) -> Option<u8> {
-        self.rows.depth(row)
-    }
-
-    fn shared(&self, a: u8, b: u8) -> Option<u8> {
-        self.rows.shared(a, b)
-    }
-
-    fn spells(bytes: &[u8]) -> bool {
-        spelling::read(bytes).is_some()
-    }
-
-    // However its runs are cut, a spelling gets the same answer.
-    fn names(&self, row: u8, bytes: &[u8]) -> bool
-        ensures answer { result ≡ both_same (run_list bytes.now) (rows_of self.now.rows row) }
-        ensures cut { (pieces : List ℕ) → Cut bytes.now pieces → result ≡ both_same (run_list pieces) (rows_of self.now.rows row) }
+    // However its runs are cut, a spelling is read as the same list.
+    fn read(bytes: &[u8]) -> Option<PortList>
+        ensures value { ports_in result ≡ run_list bytes.now }
+        ensures cut { (pieces : List ℕ) → Cut bytes.now pieces → ports_in result ≡ run_list pieces }
     {
-        match spelling::read(bytes) {
-            Some(list) => self.rows.has(row, &list),
-            None => false,
+        let (pairs, left) = bytes.as_chunks::<2>();
+        let mut list = PortList::new();
+        for [port, count] in pairs {
+            push_run(&mut list, *port, *count)?;
         }
+        left.is_empty().then_some(list)
     }
 
-    fn write(&self, row: u8, memory: &mut [u8]) -> Option<usize>
-        ensures answer { is_some result ≡ writable 254 (rows_of self.now.rows row) memory.old }
-        ensures memory { MatchOption result (memory.new ≡ memory.old) (λ n. Written 254 run_list (rows_of self.now.rows row) memory.old memory.new n) }
-        ensures exact { (result, memory.new) ≡ put_row 254 runs (rows_of self.now.rows row) memory.old }
-        ensures shortest { IfSome result (λ n. (bytes : List ℕ) → run_list bytes ≡ rows_of self.now.rows row → n ≤ length bytes) }
+    // Nothing shorter spells the list.
+    #[tactic(auto, using(crate::specs::RunLaws::runs_shortest))]
+    fn write(list: &PortList, memory: &mut [u8]) -> Option<usize>
+        ensures exact { (result, memory.new) ≡ put_first 254 (runs (ports_of list.now)) memory.old }
+        ensures shortest { IfSome result (λ n. (bytes : List ℕ) → run_list bytes ≡ Some (ports_of list.now) → n ≤ length bytes) }
     {
-        match self.rows.get(row) {
-            Some(list) => spelling::write(list, memory),
-            None => None,
+        // Tested by each spelling, as a public call asks nothing of its caller.
+        if memory.len() < Self::WIDEST {
+            return None;
         }
+        Some(write_runs(list.ports(), memory))
     }
 }
 

@@ -1,5 +1,5 @@
 -- A good plan, written as a sheet and read again, is that plan.
-use Rattle.std.proofs.Common.{◌≡◌, ℕ, ◌+◌, ◌*◌, ◌<◌, ◌≤◌, List, [], ◌∷◌, ◌++◌, map, length, Some, Ok, codes, Result, refl, ap, ◌∙◌, arith}
+use Rattle.std.proofs.Common.{◌≡◌, ℕ, ◌+◌, ◌*◌, ◌<◌, ◌≤◌, List, [], ◌∷◌, ◌++◌, map, length, Some, Ok, codes, Result, sym, refl, ap, ◌∙◌, arith}
 use lib.Seq.{append_snoc}
 use Rattle.std.proofs.lemmas.List.{append-nil, length_push}
 use Rattle.std.proofs.lemmas.Bool.{and_parts, le-ltb}
@@ -196,9 +196,22 @@ round_trip room count wires g h =
     ∙ wires_took room 2 count [] wires c g.fits (omega arith)
 
 -- what an answer that follows the definition then is
-pub reads_back : (sheet : List ℕ) (before after : List Wire) (r : Result Counts SheetFault)
+reads_back : (sheet : List ℕ) (before after : List Wire) (r : Result Counts SheetFault)
     → r ≡ (sheet_read (length before) sheet).1 → after ≡ filled (sheet_read (length before) sheet).0.wires before
     → ReadsBack sheet before r after
 reads_back sheet before after r answer table count wires g h e =
     let trip = ap (sheet_read (length before)) e ∙ round_trip (length before) count wires g h in
     (answer ∙ ap (λ x. x.1) trip, table ∙ ap (λ x. filled x.0.wires before) trip)
+
+-- a sheet was read to the end or to its first faulty line: what was taken, and the answer
+pub record Read (sheet : List ℕ) (before after : List Wire) (r : Result Counts SheetFault) : Type 0 where
+  pub answer : r ≡ (sheet_read (length before) sheet).1
+  pub table : after ≡ filled (sheet_read (length before) sheet).0.wires before
+  pub plan : ReadsBack sheet before r after
+
+pub read_to : (sheet : List ℕ) (before after : List Wire) (r : Result Counts SheetFault) (t : Taken)
+    → sheet_read (length before) sheet ≡ (t, r) → after ≡ filled t.wires before → Read sheet before after r
+read_to sheet before after r t e k =
+    let answer : r ≡ (sheet_read (length before) sheet).1 = sym (ap (λ x. x.1) e) in
+    let table : after ≡ filled (sheet_read (length before) sheet).0.wires before = k ∙ sym (ap (λ x. filled x.0.wires before) e) in
+    record { answer = answer; table = table; plan = reads_back sheet before after r answer table }

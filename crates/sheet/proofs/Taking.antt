@@ -35,7 +35,7 @@ module _ (room n count : ℕ) (t : Taken) (w : Wire) (ok : admitted count t.wire
 
 -- a wire that fits, written where the table has a record left
 module _ (old new : Reader) (table after start : List Wire) (t : Taken) (w : Wire) (n count : ℕ) (k : Tracks old table start t)
-    (ok : admitted count t.wires w n ≡ Ok tt) (marks : Marks new.ports.taken (t.wires ++ w ∷ [])) (boards : new.boards ≡ old.boards) where
+    (ok : admitted count t.wires w n ≡ Ok tt) (marks : Marks new.ports (t.wires ++ w ∷ [])) (boards : new.boards ≡ old.boards) where
   pub stored_took : (r : Result (Unit {0}) SheetFault)
       → r ≡ cond (ltb old.wires (length table)) (Ok tt) (Err (TableFull n))
       → MatchResult r (λ _. (after ≡ set table old.wires w) × (new.wires ≡ old.wires + 1))
@@ -67,9 +67,9 @@ module _ (old new : Reader) (table after start : List Wire) (t : Taken) (w : Wir
 pub took_ok : (reader : Reader) (table start : List Wire) (x : Result Taken SheetFault) → Took (Ok tt) reader table start x
     → (t : Taken) × (x ≡ Ok t) × Tracks reader table start t
 took_ok reader table start (Ok t) k = (t, refl, k.1)
-took_ok reader table start (Err f) k = absurd (let z : ◌≡◌ {A = ℕ} 0 1 = cc in omega arith)
+took_ok reader table start (Err f) k = absurd (cc)
 
 pub took_err : (reader : Reader) (table start : List Wire) (f : SheetFault) (x : Result Taken SheetFault)
     → Took (Err f) reader table start x → x ≡ Err f
-took_err reader table start f (Ok t) k = absurd (let e = k.0 in let z : ◌≡◌ {A = ℕ} 0 1 = cc in omega arith)
+took_err reader table start f (Ok t) k = let answer = k.0 in absurd (cc)
 took_err reader table start f (Err g) k = let same : g ≡ f = cc in ap Err same

@@ -1,3 +1,4 @@
+pub mod Printed
 pub mod Promises
 pub mod Sheet
 pub mod Tracks

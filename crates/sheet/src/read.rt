@@ -31,9 +31,11 @@ pub fn read_sheet(sheet: &[u8], table: &mut [Wire]) -> Result<Counts, SheetFault
 {
     check_size(sheet)?;
     let mut reader = Reader::new();
-    let mut lines = Lines::of(sheet);
-    while let Some(line) = lines.next_line() {
+    // Tried `for line in &mut lines`: after it a proof does not know which line was the last.
+    let mut lines = 0;
+    for line in Lines::of(sheet) {
         reader.take_line(&line, table)?;
+        lines = line.number;
     }
-    reader.finish(lines.number)
+    reader.finish(lines)
 }

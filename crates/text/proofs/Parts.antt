@@ -1,24 +1,10 @@
 -- Parts of a text: from one place up to and without another.
-use Rattle.std.proofs.Common.{◌≡◌, ℕ, ◌+◌, ◌-◌, ◌≤◌, min, List, [], length, take, drop, sym, ap, ◌∙◌, ⊎_elim, arith, length-drop, length-take, take_all, take-take, drop-drop}
-use Rattle.std.proofs.lemmas.List.{drop-take, nil_from_length}
-use Rattle.std.proofs.lemmas.Bool.{cases_lt}
+use Rattle.std.proofs.Common.{◌≡◌, ℕ, ◌+◌, ◌-◌, ◌≤◌, min, List, length, take, drop, sym, ap, ◌∙◌, arith, length-drop, length-take, take-take, drop-drop}
+use Rattle.std.proofs.lemmas.List.{drop-take}
 use Rattle.text.specs.Views.{part}
 
 pub length_part : (text : List ℕ) (start end : ℕ) → length (part text start end) ≡ min (end - start) (length text - start)
 length_part text start end = length-take (end - start) (drop start text) ∙ ap (min (end - start)) (length-drop start text)
-
--- as far as the text goes
-pub part_min : (text : List ℕ) (start end : ℕ) → part text start (min end (length text)) ≡ part text start end
-part_min text start end =
-    ⊎_elim
-    (λ h. let m : min end (length text) ≡ end = omega arith in rw m)
-    (λ h. let m : min end (length text) ≡ length text = omega arith in
-    let d = length-drop start text in
-    rw m (take_all (length text - start) (drop start text) (omega arith) ∙ sym (take_all (end - start) (drop start text) (omega arith))))
-    (cases_lt end (length text))
-
-pub part_none : (text : List ℕ) (start end : ℕ) → min end (length text) ≤ start → part text start end ≡ []
-part_none text start end h = nil_from_length (part text start end) (omega (arith, length_part text start end))
 
 -- a part without its first bytes
 pub part_drop : (text : List ℕ) (start end k : ℕ) → k ≤ length (part text start end)

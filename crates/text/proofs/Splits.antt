@@ -1,7 +1,7 @@
 -- Splitting a list piece by piece, and a line word by word.
-use Rattle.std.proofs.Common.{◌≡◌, ℕ, suc, ◌+◌, ◌-◌, ◌<◌, ◌≤◌, true, false, eqb, ◌⊎◌, List, [], ◌∷◌, length, get_or, take, drop, sym, refl, ap, ◌∙◌, ⊎_elim, add_assoc, one-add, arith, length-drop, drop-drop}
+use Rattle.std.proofs.Common.{min, ◌≡◌, ℕ, suc, ◌+◌, ◌-◌, ◌<◌, ◌≤◌, true, false, eqb, List, [], ◌∷◌, length, get_or, take, drop, sym, refl, ap, ◌∙◌, ⊎_elim, add_assoc, one-add, arith, length-drop, drop-drop}
 use lib.Seq.{drop-length}
-use Rattle.std.proofs.lemmas.List.{drop_all, drop_more, take_rest}
+use Rattle.std.proofs.lemmas.List.{drop_min, drop_all, drop_more, take_rest}
 use Rattle.std.proofs.lemmas.List.Sums.{prefix_len-le-length}
 use Rattle.text.specs.Cuts.{LineCut}
 use Rattle.text.specs.Views.{part}
@@ -103,32 +103,21 @@ line_bound text at n h e =
     omega (arith, prefix_len-le-length (other 10) (part text at (length text)), length_part text at (length text))
 
 -- the line that begins at a place, and where the next begins
-lines_line : (text : List ℕ) (at n next : ℕ) → at < length text → n ≡ prefix_len (other 10) (part text at (length text))
-    → ((at + n < length text) × (next ≡ at + n + 1)) ⊎ ((length text ≤ at + n) × (next ≡ at + n))
-    → lines (drop at text) ≡ part text at (at + n) ∷ lines (drop next text)
-lines_line text at n next h e ways =
-    let whole : part text at (length text) ≡ drop at text = take_rest text at in
-    let n_is : n ≡ prefix_len (other 10) (drop at text) = e ∙ ap (prefix_len (other 10)) whole in
+pub line_cut : (text : List ℕ) (at n next : ℕ) → at < length text → n ≡ prefix_len (other 10) (part text at (length text))
+    → next ≡ min (length text) (at + n + 1) → LineCut text at (at + n) next
+line_cut text at n next h e m =
+    let bound = line_bound text at n h e in
+    let n_is : n ≡ prefix_len (other 10) (drop at text) = e ∙ ap (prefix_len (other 10)) (take_rest text at) in
     let size : at + n - at ≡ n = omega arith in
-    let behind : drop (suc n) (drop at text) ≡ drop next text =
-    drop-drop (suc n) at text ∙
-    ⊎_elim {C = drop (at + suc n) text ≡ drop next text}
-    (λ w. let k : at + suc n ≡ next = omega arith in ap (λ j. drop j text) k)
-    (λ w. drop_all (at + suc n) text (omega arith) ∙ sym (drop_all next text (omega arith)))
-    ways in
+    let least : next ≡ min (at + suc n) (length text) = omega arith in
+    let behind : drop next text ≡ drop (suc n) (drop at text) =
+    ap (λ j. drop j text) least ∙ drop_min (at + suc n) text ∙ sym (drop-drop (suc n) at text) in
     let cons : drop at text ≡ get_or text at 0 ∷ drop (at + 1) text = drop_more text at 0 h in
     let piece : Piece 10 (drop at text) = rw cons (split_piece 10 (get_or text at 0) (drop (at + 1) text)) in
-    rw (size, ← behind, n_is) piece
-
-pub line_cut : (text : List ℕ) (at n next : ℕ) → at < length text → n ≡ prefix_len (other 10) (part text at (length text))
-    → ((at + n < length text) × (next ≡ at + n + 1)) ⊎ ((length text ≤ at + n) × (next ≡ at + n))
-    → LineCut text at (at + n) next
-line_cut text at n next h e ways =
-    let bound = line_bound text at n h e in
     record {
-      line = lines_line text at n next h e ways;
-      onward = ⊎_elim (λ w. omega arith) (λ w. omega arith) ways;
-      within = ⊎_elim (λ w. omega arith) (λ w. omega arith) ways;
+      line = rw (size, behind, n_is) piece;
+      onward = omega arith;
+      within = omega arith;
     }
 
 -- a line without words

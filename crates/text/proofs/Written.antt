@@ -2,36 +2,32 @@
 use Rattle.std.proofs.Common.{◌≡◌, ℕ, zero, suc, ◌+◌, ◌<◌, ◌≤◌, Bool, true, ◌&&◌, eqb, leb, List, [], ◌∷◌, ◌++◌, length, Ok, refl, ap, ◌∙◌, arith, length-append}
 use Rattle.std.proofs.lemmas.Bool.{and_parts, and_from, not-true, leb-true, eqb-true}
 use Rattle.std.proofs.lemmas.Bool.Decides.{Decides-below_and, nat_tests}
-use Rattle.text.specs.Text.{all, digit, lines, nonempty, numeral, onto, other, plain, printable, split, value, words}
+use Rattle.std.specs.List.{list_all}
+use Rattle.std.proofs.lemmas.List.Elements.{All-weaker}
+use Rattle.std.proofs.lemmas.List.Folds.{list_all-append}
+use Rattle.std.proofs.lemmas.List.Sums.{AllPass-from_list_all, list_all-from_AllPass}
+use Rattle.text.specs.Text.{digit, lines, nonempty, numeral, onto, other, plain, printable, split, value, words}
 use Rattle.text.specs.Writing.{digits, ended_lines, spaced}
 use Rattle.text.proofs.Splits.{split_none, split_at, split_on, onto_none, onto_piece, nonempty_piece}
 
-pub all_append : (p : ℕ → Bool) (xs ys : List ℕ) → all p xs ≡ true → all p ys ≡ true → all p (xs ++ ys) ≡ true
-all_append p [] ys h k = k
-all_append p (x ∷ xs) ys h k =
-    let parts = and_parts (p x) (all p xs) h in
-    and_from (p x) (all p (xs ++ ys)) parts.0 (all_append p xs ys parts.1 k)
-
-pub all_weaker : (p q : ℕ → Bool) → ((b : ℕ) → p b ≡ true → q b ≡ true) → (xs : List ℕ) → all p xs ≡ true → all q xs ≡ true
-all_weaker p q f [] h = refl
-all_weaker p q f (x ∷ xs) h =
-    let parts = and_parts (p x) (all p xs) h in
-    and_from (q x) (all q xs) (f x parts.0) (all_weaker p q f xs parts.1)
+all_weaker : (p q : ℕ → Bool) → ((b : ℕ) → p b ≡ true → q b ≡ true) → (xs : List ℕ) → list_all p xs ≡ true → list_all q xs ≡ true
+all_weaker p q f xs h =
+    list_all-from_AllPass q xs (All-weaker (λ b. p b ≡ true) (λ b. q b ≡ true) f xs (AllPass-from_list_all p xs h))
 
 -- a piece without the separator, then the separator
-pub split_front : (s : ℕ) (w r : List ℕ) → all (other s) w ≡ true → split s (w ++ s ∷ r) ≡ w ∷ split s r
+pub split_front : (s : ℕ) (w r : List ℕ) → list_all (other s) w ≡ true → split s (w ++ s ∷ r) ≡ w ∷ split s r
 split_front s [] r h = split_at s s r (grind (arith, nat_tests))
 split_front s (b ∷ bs) r h =
-    let parts = and_parts (other s b) (all (other s) bs) h in
+    let parts = and_parts (other s b) (list_all (other s) bs) h in
     split_on s b (bs ++ s ∷ r) (not-true (eqb b s) parts.0) ∙ ap (onto b) (split_front s bs r parts.1) ∙ onto_piece b bs (split s r)
 
 -- a last piece without its separator
-pub split_last : (s b : ℕ) (bs : List ℕ) → all (other s) (b ∷ bs) ≡ true → split s (b ∷ bs) ≡ (b ∷ bs) ∷ []
+pub split_last : (s b : ℕ) (bs : List ℕ) → list_all (other s) (b ∷ bs) ≡ true → split s (b ∷ bs) ≡ (b ∷ bs) ∷ []
 split_last s b [] h =
     let parts = and_parts (other s b) true h in
     split_on s b [] (not-true (eqb b s) parts.0) ∙ ap (onto b) (split_none s) ∙ onto_none b
 split_last s b (c ∷ cs) h =
-    let parts = and_parts (other s b) (all (other s) (c ∷ cs)) h in
+    let parts = and_parts (other s b) (list_all (other s) (c ∷ cs)) h in
     split_on s b (c ∷ cs) (not-true (eqb b s) parts.0) ∙ ap (onto b) (split_last s c cs parts.1) ∙ onto_piece b (c ∷ cs) []
 
 -- neither a space nor the end of a line, and printable
@@ -50,7 +46,7 @@ visible_printable b h = grind (arith, nat_tests)
 -- a word: at least one byte, all visible
 pub record Solid (w : List ℕ) : Type 0 where
   pub some : 0 < length w
-  pub visibly : all visible w ≡ true
+  pub visibly : list_all visible w ≡ true
 
 abbrev pub AllSolid : List (List ℕ) → Type 0
 AllSolid [] = Unit {0}
@@ -76,24 +72,25 @@ words_spaced (w ∷ v ∷ vs) s = words_front w (spaced (v ∷ vs)) s.0 ∙ ap (
 
 -- what holds of a space and of every visible byte holds of all bytes of a line
 spaced_all : (p : ℕ → Bool) → p 32 ≡ true → ((b : ℕ) → visible b ≡ true → p b ≡ true)
-    → (ws : List (List ℕ)) → AllSolid ws → all p (spaced ws) ≡ true
+    → (ws : List (List ℕ)) → AllSolid ws → list_all p (spaced ws) ≡ true
 unfolding spaced
 spaced_all p q f [] s = refl
 spaced_all p q f (w ∷ []) s = all_weaker visible p f w s.0.visibly
 spaced_all p q f (w ∷ v ∷ vs) s =
-    all_append p w (32 ∷ spaced (v ∷ vs)) (all_weaker visible p f w s.0.visibly)
-    (and_from (p 32) (all p (spaced (v ∷ vs))) q (spaced_all p q f (v ∷ vs) s.1))
+    list_all-append p w (32 ∷ spaced (v ∷ vs))
+    ∙ and_from (list_all p w) (p 32 && list_all p (spaced (v ∷ vs))) (all_weaker visible p f w s.0.visibly)
+    (and_from (p 32) (list_all p (spaced (v ∷ vs))) q (spaced_all p q f (v ∷ vs) s.1))
 
-pub spaced_printable : (ws : List (List ℕ)) → AllSolid ws → all printable (spaced ws) ≡ true
+pub spaced_printable : (ws : List (List ℕ)) → AllSolid ws → list_all printable (spaced ws) ≡ true
 spaced_printable ws s = spaced_all printable refl visible_printable ws s
 
-pub spaced_one_line : (ws : List (List ℕ)) → AllSolid ws → all (other 10) (spaced ws) ≡ true
+pub spaced_one_line : (ws : List (List ℕ)) → AllSolid ws → list_all (other 10) (spaced ws) ≡ true
 spaced_one_line ws s = spaced_all (other 10) refl visible_end ws s
 
 -- lines that hold no end of line
 abbrev pub AllLines : List (List ℕ) → Type 0
 AllLines [] = Unit {0}
-AllLines (l ∷ ls) = (all (other 10) l ≡ true) × AllLines ls
+AllLines (l ∷ ls) = (list_all (other 10) l ≡ true) × AllLines ls
 
 pub lines_ended : (ls : List (List ℕ)) → AllLines ls → lines (ended_lines ls) ≡ ls
 unfolding ended_lines
@@ -104,7 +101,7 @@ lines_ended (l ∷ ls) s = split_front 10 l (ended_lines ls) s.0 ∙ ap (λ r. l
 abbrev good_digits : ℕ → Bool
 good_digits k =
     let w = digits k in
-    (all digit w && plain w) && (eqb (value w) k && (leb 1 (length w) && (leb (length w) 3 && all visible w)))
+    (list_all digit w && plain w) && (eqb (value w) k && (leb 1 (length w) && (leb (length w) 3 && list_all visible w)))
 
 abbrev all_good : ℕ → Bool
 all_good zero = true
@@ -123,10 +120,10 @@ pub spelled : (k : ℕ) → k < 129 → Spelled k
 spelled k h =
     let test : good_digits k ≡ true = (Decides-below_and good_digits (λ j. good_digits j ≡ true) all_good (λ j. ((λ e. e), (λ e. e))) refl (λ _. refl) 129).0 all_good_129 k h in
     let w = digits k in
-    let top = and_parts (all digit w && plain w) (eqb (value w) k && (leb 1 (length w) && (leb (length w) 3 && all visible w))) test in
-    let two = and_parts (eqb (value w) k) (leb 1 (length w) && (leb (length w) 3 && all visible w)) top.1 in
-    let three = and_parts (leb 1 (length w)) (leb (length w) 3 && all visible w) two.1 in
-    let four = and_parts (leb (length w) 3) (all visible w) three.1 in
+    let top = and_parts (list_all digit w && plain w) (eqb (value w) k && (leb 1 (length w) && (leb (length w) 3 && list_all visible w))) test in
+    let two = and_parts (eqb (value w) k) (leb 1 (length w) && (leb (length w) 3 && list_all visible w)) top.1 in
+    let three = and_parts (leb 1 (length w)) (leb (length w) 3 && list_all visible w) two.1 in
+    let four = and_parts (leb (length w) 3) (list_all visible w) three.1 in
     record {
       reads = λ n. rw top.0 (ap Ok (eqb-true (value w) k two.0));
       solid = record { some = leb-true 1 (length w) three.0; visibly = four.1 };

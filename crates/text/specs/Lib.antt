@@ -1,4 +1,5 @@
 pub mod Cuts
+pub mod Iterators
 pub mod Text
 pub mod Views
 pub mod Writing

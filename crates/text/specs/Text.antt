@@ -1,5 +1,6 @@
 -- Text as a list of bytes: its lines, the words of a line, and the numbers that words stand for.
 use Rattle.std.specs.Prelude.{ℕ, ◌+◌, ◌-◌, ◌*◌, Bool, true, false, cond, not, ◌&&◌, List, [], ◌∷◌, length, Ok, Err, fold, Result, ◌==◌, nat_le, nat_lt}
+use Rattle.std.specs.List.{list_all}
 use Rattle.text.specs.declared.fault.LineFault.{LineFault}
 use Rattle.text.specs.declared.fault.LineFault.TheVariants.{TooLong, BadByte}
 use Rattle.text.specs.declared.fault.WordFault.{WordFault}
@@ -34,17 +35,13 @@ other s b = not (b == s)
 abbrev pub space : ℕ → Bool
 space b = b == 32
 
-abbrev pub all : (ℕ → Bool) → List ℕ → Bool
-all p [] = true
-all p (b ∷ bs) = p b && all p bs
-
 abbrev pub printable : ℕ → Bool
 printable b = nat_le 32 b && nat_le b 126
 
 -- a line has at most 60 bytes, each of them 32 to 126
 abbrev pub line_check : ℕ → List ℕ → Result (Unit {0}) LineFault
 line_check n line =
-    cond (nat_lt 60 (length line)) (Err (TooLong n)) (cond (all printable line) (Ok tt) (Err (BadByte n)))
+    cond (nat_lt 60 (length line)) (Err (TooLong n)) (cond (list_all printable line) (Ok tt) (Err (BadByte n)))
 
 abbrev pub digit : ℕ → Bool
 digit b = nat_le 48 b && nat_le b 57
@@ -66,4 +63,4 @@ value ds = fold (λ n d. n * 10 + (d - 48)) 0 ds
 
 -- the number that a word of line n stands for
 abbrev pub numeral : ℕ → List ℕ → Result ℕ WordFault
-numeral n w = cond (all digit w && plain w) (Ok (value w)) (Err (BadNumber n))
+numeral n w = cond (list_all digit w && plain w) (Ok (value w)) (Err (BadNumber n))

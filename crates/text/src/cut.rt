@@ -1,4 +1,5 @@
-// Where a line or a word ends.
+// Where a line or a word ends. All by places and not by slices, since a word is handed out with its
+// place in the text.
 ghost use Rattle.std.specs.Prelude.{◌≡◌, [], drop, MatchOption};
 ghost use Rattle.std.specs.List.{prefix_len};
 ghost use Rattle.text.specs.Cuts.{LineCut, WordCut};
@@ -12,35 +13,22 @@ const LINE_END: u8 = 10;
 fn until(bytes: &[u8], stop: u8) -> usize
     ensures { result ≡ prefix_len (other stop) bytes.now }
 {
-    for (i, byte) in bytes.iter().enumerate() {
-        if *byte == stop {
-            return i;
-        }
-    }
-    bytes.len()
+    bytes.iter().take_while(|byte| **byte != stop).count()
 }
 
 // How many spaces stand in front.
+// Not one function with `until`, over a closure: its contract would be longer than both bodies.
 fn spaces(bytes: &[u8]) -> usize
     ensures { result ≡ prefix_len space bytes.now }
 {
-    for (i, byte) in bytes.iter().enumerate() {
-        if *byte != b' ' {
-            return i;
-        }
-    }
-    bytes.len()
+    bytes.iter().take_while(|byte| **byte == b' ').count()
 }
 
 // The bytes from `start` up to and without `end`, as far as the text goes.
 pub(crate) fn part_of(text: &[u8], start: usize, end: usize) -> &[u8]
     ensures { result.now ≡ part text.now start end }
 {
-    let end = end.min(text.len());
-    if start >= end {
-        return &[];
-    }
-    &text[start..end]
+    text.get(start..end.min(text.len())).unwrap_or(&[])
 }
 
 // Where the line that begins at `start` ends, and where the next begins; none where no line is left.
@@ -51,9 +39,8 @@ pub(crate) fn cut_line(text: &[u8], start: usize) -> Option<(usize, usize)>
     if start >= text.len() {
         return None;
     }
-    let end = start + until(&text[start..text.len()], LINE_END);
-    let next = if end < text.len() { end + 1 } else { end };
-    Some((end, next))
+    let end = start + until(&text[start..], LINE_END);
+    Some((end, text.len().min(end + 1)))
 }
 
 // Where the next word of the part from `at` to `end` begins and ends; none where no word is left.
@@ -66,7 +53,7 @@ pub(crate) fn cut_word(text: &[u8], at: usize, end: usize) -> Option<(usize, usi
     if skipped >= left.len() {
         return None;
     }
-    let size = until(&left[skipped..left.len()], b' ');
+    let size = until(&left[skipped..], b' ');
     let place = at + skipped;
     Some((place, place + size))
 }

@@ -1,7 +1,10 @@
 // One line of a text, and its words, one after the other.
 ghost use Rattle.std.specs.Prelude.{◌≡◌, ◌+◌, [], ◌∷◌, length, IfSome, MatchOption};
-ghost use Rattle.text.specs.Text.{all, line_check, printable, words};
-ghost use Rattle.text.specs.Views.{bytes_of, kind_of, line_bytes, part, place_of, word_class};
+ghost use Rattle.std.specs.Iterator.{item_count};
+ghost use Rattle.std.specs.List.{list_all};
+ghost use Rattle.text.specs.Iterators.{GivesWord};
+ghost use Rattle.text.specs.Text.{line_check, printable};
+ghost use Rattle.text.specs.Views.{IsClassified, bytes_of, line_bytes, part, place_of, words_left};
 
 use crate::cut::{cut_word, part_of};
 use crate::fault::LineFault;
@@ -11,7 +14,7 @@ use crate::word::Word;
 pub const LINE_BYTES: usize = 60;
 
 // A line, or what is left of it: its number from 1, and the part of the text it is, from `start` up
-// to and without `end`.
+// to and without `end`. It is no slice of its own, since places are counted from the text's start.
 #[derive(Clone, Copy)]
 pub struct Line<'a> {
     pub text: &'a [u8],
@@ -38,8 +41,8 @@ impl<'a> Line<'a> {
     // Takes the first word off the line; none, and nothing changed, where no word is left. A word is
     // the very part of the text at its place.
     pub fn next_word(&mut self) -> Option<Word<'a>>
-        ensures word { MatchOption result (words (line_bytes self.old) ≡ []) (λ w. words (line_bytes self.old) ≡ bytes_of w ∷ words (line_bytes self.new)) }
-        ensures kind { MatchOption result (self.new ≡ self.old) (λ w. kind_of w ≡ word_class (bytes_of w)) }
+        ensures word { MatchOption result (words_left self.old ≡ []) (λ w. words_left self.old ≡ bytes_of w ∷ words_left self.new) }
+        ensures kind { MatchOption result (self.new ≡ self.old) IsClassified }
         ensures part { IfSome result (λ w. bytes_of w ≡ part self.old.text.now (place_of w) (place_of w + length (bytes_of w))) }
         ensures text { self.new.text ≡ self.old.text }
         ensures end { self.new.end ≡ self.old.end }
@@ -52,21 +55,22 @@ impl<'a> Line<'a> {
     }
 }
 
-// Whether a byte may stand in a line.
-fn printable_byte(byte: u8) -> bool
-    ensures { result ≡ printable byte }
-{
-    byte >= 32 && byte <= 126
+// `next_word` stays: its clauses say one thing each by name, and `next_gives` all in one relation.
+impl<'a> Iterator for Line<'a> {
+    type Item = Word<'a>;
+
+    ghost next_gives = { GivesWord };
+
+    ghost remaining = { item_count words_left };
+
+    fn next(&mut self) -> Option<Word<'a>> {
+        self.next_word()
+    }
 }
 
-// Whether all may.
+// Whether each byte may stand in a line.
 fn all_printable(bytes: &[u8]) -> bool
-    ensures { result ≡ all printable bytes.now }
+    ensures { result ≡ list_all printable bytes.now }
 {
-    for byte in bytes {
-        if !printable_byte(*byte) {
-            return false;
-        }
-    }
-    true
+    bytes.iter().all(|byte| matches!(byte, 32..=126))
 }

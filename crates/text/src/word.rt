@@ -5,7 +5,7 @@ ghost use Rattle.text.specs.Views.{bytes_of, kind_of, number_of, place_of, word_
 
 use crate::fault::WordFault;
 
-// What a word is made of.
+// What a word is made of: the cases of `Word` without their bytes, for what clauses compare.
 #[derive(Clone, Copy)]
 pub enum Class {
     // Small letters only.
@@ -27,36 +27,13 @@ pub enum Word<'a> {
     Text(&'a [u8], usize),
 }
 
-// What a byte of a word is.
-fn byte_class(byte: u8) -> Class
-    ensures { result ≡ word_class (byte ∷ []) }
-{
-    match byte as char {
-        '0'..='9' => Class::Digits,
-        'a'..='z' => Class::Letters,
-        _ => Class::Mixed,
-    }
-}
-
 // Whether the bytes are digits only, small letters only, or anything else.
 fn class_of(bytes: &[u8]) -> Class
     ensures { result ≡ word_class bytes.now }
 {
-    let mut digits = true;
-    let mut letters = true;
-    for byte in bytes {
-        match byte_class(*byte) {
-            Class::Digits => letters = false,
-            Class::Letters => digits = false,
-            Class::Mixed => {
-                digits = false;
-                letters = false;
-            }
-        }
-    }
-    if digits {
+    if bytes.iter().all(|byte| matches!(*byte as char, '0'..='9')) {
         Class::Digits
-    } else if letters {
+    } else if bytes.iter().all(|byte| matches!(*byte as char, 'a'..='z')) {
         Class::Letters
     } else {
         Class::Mixed
@@ -83,8 +60,7 @@ impl<'a> Word<'a> {
     {
         match self {
             Word::Number(digits, _) => read_number(digits, line),
-            Word::Keyword(_, _) => Err(WordFault::BadNumber(line)),
-            Word::Text(_, _) => Err(WordFault::BadNumber(line)),
+            Word::Keyword(..) | Word::Text(..) => Err(WordFault::BadNumber(line)),
         }
     }
 }
@@ -113,8 +89,7 @@ fn is_plain(bytes: &[u8]) -> bool
 {
     match bytes {
         [_] => true,
-        [first, _] => *first != b'0',
-        [first, _, _] => *first != b'0',
+        [first, _] | [first, _, _] => *first != b'0',
         _ => false,
     }
 }

@@ -1,8 +1,6 @@
 // Both address books and all policies.
 use crate::books;
-use crate::books::number_at;
-use crate::call::{Call, Name};
-use crate::output::{push_number, push_text};
+use crate::call::Call;
 use path_book::PathBook;
 use policy::free::LowestFree;
 use policy::lowest::Lowest;
@@ -32,37 +30,33 @@ impl Bench {
         }
     }
 
-    // Carries out a call and adds its answers to the output.
-    pub(crate) fn answer(&mut self, call: &Call, output: &mut Vec<u8>) -> Result<(), AllocError> {
-        match call.name {
-            Name::New => {
+    // Carries out a call and adds its answers to the output; a question mark for each book where a
+    // line is no call.
+    pub(crate) fn answer(
+        &mut self,
+        call: Option<Call>,
+        output: &mut String,
+    ) -> Result<(), AllocError> {
+        match call {
+            Some(Call::New) => {
                 *self = Bench::new();
-                push_text(output, b"new")
+                output.push_str("new")
             }
-            Name::Offer => self.show(read_offer(call.numbers.as_slice()), output),
-            _ => {
-                books::answer(&mut self.path, call, output)?;
-                output.push(b' ')?;
-                books::answer(&mut self.run, call, output)
+            Some(Call::Ask(question)) => {
+                books::answer(&mut self.path, &question, output)?;
+                output.push(' ')?;
+                books::answer(&mut self.run, &question, output)
             }
+            Some(Call::Show(offer)) => self.show(offer, output),
+            None => output.push_str("? ?"),
         }
     }
 
     // Shows an offer to each policy and adds the picks to the output.
-    fn show(&mut self, offer: Offer, output: &mut Vec<u8>) -> Result<(), AllocError> {
-        push_number(output, usize::from(self.lowest.pick(offer)))?;
-        output.push(b' ')?;
-        push_number(output, usize::from(self.free.pick(offer)))?;
-        output.push(b' ')?;
-        push_number(output, usize::from(self.turning.pick(offer)))
-    }
-}
-
-fn read_offer(numbers: &[u8]) -> Offer {
-    Offer {
-        board: number_at(numbers, 0),
-        destination: number_at(numbers, 1),
-        permitted: number_at(numbers, 2),
-        free: number_at(numbers, 3),
+    fn show(&mut self, offer: Offer, output: &mut String) -> Result<(), AllocError> {
+        let lowest = self.lowest.pick(offer);
+        let free = self.free.pick(offer);
+        let turning = self.turning.pick(offer);
+        write!(output, "{lowest} {free} {turning}")
     }
 }

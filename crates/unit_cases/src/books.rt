@@ -1,6 +1,5 @@
-// Calls on an address book, and their answers.
-use crate::call::{Call, Name};
-use crate::output::{push_count, push_number, push_text, push_yes};
+// Questions to an address book, and its answers as text.
+use crate::call::Question;
 use book::Book;
 use book::checks::read_back;
 use std::alloc::AllocError;
@@ -8,80 +7,66 @@ use std::alloc::AllocError;
 // What memory holds before a row is written to it.
 const UNTOUCHED: u8 = 170;
 
-// The number at this place of a call; 255 where there is none.
-pub(crate) fn number_at(numbers: &[u8], place: usize) -> u8 {
-    if place < numbers.len() {
-        numbers[place]
-    } else {
-        255
-    }
-}
-
-// The bytes behind a call's row.
-fn bytes_of(numbers: &[u8]) -> &[u8] {
-    if numbers.len() > 0 {
-        &numbers[1..numbers.len()]
-    } else {
-        &[]
-    }
-}
-
-// Carries out a call on a book and adds its answer to the output.
+// Asks a book and adds its answer to the output.
 pub(crate) fn answer<B: Book>(
     book: &mut B,
-    call: &Call,
-    output: &mut Vec<u8>,
+    question: &Question,
+    output: &mut String,
 ) -> Result<(), AllocError> {
-    let numbers = call.numbers.as_slice();
-    let row = number_at(numbers, 0);
-    let second = number_at(numbers, 1);
-    match call.name {
-        Name::Clear => {
+    match question {
+        Question::Clear => {
             book.clear();
-            push_text(output, b"ok")
+            output.push_str("ok")
         }
-        Name::Start => push_yes(output, book.start(row)),
-        Name::Extend => push_yes(output, book.extend(row, second, number_at(numbers, 2))),
-        Name::Depth => push_count(output, book.depth(row)),
-        Name::Shared => push_count(output, book.shared(row, second)),
-        Name::Spells => push_yes(output, B::spells(numbers)),
-        Name::Names => push_yes(output, book.names(row, bytes_of(numbers))),
-        Name::Write => write_row(output, book, row, second),
-        _ => push_text(output, b"?"),
+        Question::Start { row } => push_yes(output, book.start(*row).is_ok()),
+        Question::Extend { row, source, port } => {
+            push_yes(output, book.extend(*row, *source, *port).is_ok())
+        }
+        Question::Depth { row } => push_count(output, book.depth(*row)),
+        Question::Shared { row, other } => push_count(output, book.shared(*row, *other)),
+        Question::Spells { bytes } => push_yes(output, B::spells(bytes.as_slice())),
+        Question::Names { row, bytes } => push_yes(output, book.names(*row, bytes.as_slice())),
+        Question::Write { row, room } => {
+            let mut memory = [UNTOUCHED; 256];
+            write_row(book, *row, &mut memory[..usize::from(*room)], output)
+        }
     }
 }
 
-// Writes a row to memory of this size; the answer is the spelling's length, and then what memory holds.
-fn write_row<B: Book>(output: &mut Vec<u8>, book: &B, row: u8, room: u8) -> Result<(), AllocError> {
-    let mut memory = [UNTOUCHED; 256];
-    write_to(output, book, row, &mut memory[0..usize::from(room)])
-}
-
-fn write_to<B: Book>(
-    output: &mut Vec<u8>,
+// Writes a row to memory; the answer is the spelling's length, and then what memory holds.
+fn write_row<B: Book>(
     book: &B,
     row: u8,
     memory: &mut [u8],
+    output: &mut String,
 ) -> Result<(), AllocError> {
     match read_back(book, row, memory) {
-        Some((size, true)) => push_number(output, size)?,
-        Some((_, false)) => push_text(output, b"not read back")?,
-        None => push_text(output, b"none")?,
+        Some((size, true)) => write!(output, "{size}")?,
+        Some((_, false)) => output.push_str("not read back")?,
+        None => output.push_str("none")?,
     }
     push_memory(output, memory)
 }
 
 // The bytes up to the last one touched.
-fn push_memory(output: &mut Vec<u8>, memory: &[u8]) -> Result<(), AllocError> {
-    let mut touched = 0;
-    for (place, byte) in memory.iter().enumerate() {
-        if *byte != UNTOUCHED {
-            touched = place + 1;
-        }
-    }
+fn push_memory(output: &mut String, memory: &[u8]) -> Result<(), AllocError> {
+    let touched = match memory.iter().rposition(|byte| *byte != UNTOUCHED) {
+        Some(last) => last + 1,
+        None => 0,
+    };
     for byte in memory.iter().take(touched) {
-        output.push(b'.')?;
-        push_number(output, usize::from(*byte))?;
+        write!(output, ".{byte}")?;
     }
     Ok(())
+}
+
+fn push_yes(output: &mut String, yes: bool) -> Result<(), AllocError> {
+    output.push_str(if yes { "yes" } else { "no" })
+}
+
+fn push_count(output: &mut String, count: Option<u8>) -> Result<(), AllocError> {
+    match count {
+        Some(count) => write!(output, "{count}"),
+        None => output.push_str("none"),
+    }
 }

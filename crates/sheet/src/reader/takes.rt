@@ -1,8 +1,7 @@
 // One entry after another.
-ghost use Rattle.std.specs.Prelude.{◌≡◌, ◌+◌, ◌-◌, ◌^◌, ◌<◌, List, length, if◌then◌else◌, Ok, Err, MatchResult, OnErr, nat_lt, slice_set};
-ghost use Rattle.plan.specs.declared.wire.Wire.{Wire as WireType};
-ghost use Rattle.sheet.specs.Sheet.{Taken, boards_taken, ended, entry_taken, line_taken, nothing, stated, wire_added, wire_taken};
-ghost use Rattle.sheet.specs.Tracks.{Took, Tracks};
+ghost use Rattle.std.specs.Prelude.{◌≡◌, ◌+◌, ◌-◌, ◌^◌, ◌<◌, length, if◌then◌else◌, Ok, Err, MatchResult, OnErr, nat_lt, slice_set};
+ghost use Rattle.sheet.specs.Sheet.{Taken, boards_taken, ended, entry_taken, line_taken, nothing, wire_added, wire_taken};
+ghost use Rattle.sheet.specs.Tracks.{TakesAs, Tracks};
 ghost use Rattle.grammar.specs.declared.fault.SheetFault.TheVariants.{TableFull};
 ghost use Rattle.text.specs.Views.{line_bytes};
 
@@ -11,23 +10,15 @@ use crate::counts::Counts;
 use grammar::entry::{Entry, WireEntry, read_entry};
 use grammar::fault::SheetFault;
 use plan::ports::Ports;
-use plan::wire::{End, Wire, WireState, board_count};
+use plan::wire::{End, Wire, board_count};
 use text::line::Line;
 
-// The state of a wire line; none where the word named none.
-fn known_state(state: Option<WireState>, line: usize) -> Result<WireState, SheetFault>
-    ensures { result ≡ stated line state }
-{
-    match state {
-        Some(state) => Ok(state),
-        None => Err(SheetFault::UnknownState(line)),
-    }
-}
-
+// That a refusal leaves the table as it was is a clause of each call, and the library's words for it
+// are as short as a name would be.
 impl Reader {
     // Nothing is taken yet.
     pub(crate) fn new() -> Reader
-        ensures { (start : List WireType) → Tracks result start start nothing }
+        ensures { (start : _) → Tracks result start start nothing }
     {
         Reader {
             boards: None,
@@ -39,15 +30,13 @@ impl Reader {
     // The answer where a sheet of so many lines ends.
     pub(crate) fn finish(&self, lines: usize) -> Result<Counts, SheetFault>
         requires { lines < 2 ^ 64 - 1 }
-        ensures { (t : Taken) (table start : List WireType) → Tracks self.now table start t → result ≡ ended (lines + 1) t t.boards }
+        ensures { (t : Taken) (table start : _) → Tracks self.now table start t → result ≡ ended (lines + 1) t t.boards }
     {
-        match self.boards {
-            Some(boards) => Ok(Counts {
-                boards,
-                wires: self.wires,
-            }),
-            None => Err(SheetFault::Misplaced(lines + 1)),
-        }
+        let boards = self.boards.ok_or(SheetFault::Misplaced(lines + 1))?;
+        Ok(Counts {
+            boards,
+            wires: self.wires,
+        })
     }
 
     // Writes a wire behind those taken, if the table has a record left.
@@ -73,7 +62,7 @@ impl Reader {
         line: usize,
         table: &mut [Wire],
     ) -> Result<(), SheetFault>
-        ensures took { (t : Taken) (start : List WireType) → Tracks self.old table.old start t → Took result self.new table.new start (wire_added (length start) line count t wire) }
+        ensures took { TakesAs (λ room t. wire_added room line count t wire) self.old table.old result self.new table.new }
         ensures refused { OnErr result (table.new ≡ table.old) }
     {
         self.ports.admit(count, wire, line)?;
@@ -82,7 +71,7 @@ impl Reader {
 
     // Takes the board count.
     fn take_boards(&mut self, number: u16, line: usize) -> Result<(), SheetFault>
-        ensures { (t : Taken) (table start : List WireType) → Tracks self.old table start t → Took result self.new table start (boards_taken line number t t.boards) }
+        ensures { (table : _) → TakesAs (λ room t. boards_taken line number t t.boards) self.old table result self.new table }
     {
         if self.boards.is_some() {
             return Err(SheetFault::Misplaced(line));
@@ -98,30 +87,27 @@ impl Reader {
         line: usize,
         table: &mut [Wire],
     ) -> Result<(), SheetFault>
-        ensures took { (t : Taken) (start : List WireType) → Tracks self.old table.old start t → Took result self.new table.new start (wire_taken (length start) line entry t t.boards) }
+        ensures took { TakesAs (λ room t. wire_taken room line entry t t.boards) self.old table.old result self.new table.new }
         ensures refused { OnErr result (table.new ≡ table.old) }
     {
         let count = self.boards.ok_or(SheetFault::Misplaced(line))?;
         let first = End::at(count, entry.first.board, entry.first.port, line)?;
         let second = End::at(count, entry.second.board, entry.second.port, line)?;
-        let state = known_state(entry.state, line)?;
-        self.add_wire(
-            count,
-            Wire {
-                first,
-                second,
-                state,
-            },
-            line,
-            table,
-        )
+        let state = entry.state.ok_or(SheetFault::UnknownState(line))?;
+        let wire = Wire {
+            first,
+            second,
+            state,
+        };
+        self.add_wire(count, wire, line, table)
     }
 
     // Takes what line `line` was found to say. A refusal leaves the table as it was.
     fn take(&mut self, entry: Entry, line: usize, table: &mut [Wire]) -> Result<(), SheetFault>
-        ensures took { (t : Taken) (start : List WireType) → Tracks self.old table.old start t → Took result self.new table.new start (entry_taken (length start) line t entry) }
+        ensures took { TakesAs (λ room t. entry_taken room line t entry) self.old table.old result self.new table.new }
         ensures refused { OnErr result (table.new ≡ table.old) }
     {
+        // No closures: each case holds other values.
         match entry {
             Entry::Skip => Ok(()),
             Entry::Boards(number) => self.take_boards(number, line),
@@ -131,7 +117,7 @@ impl Reader {
 
     // Takes a line. A refusal leaves the table as it was.
     pub(crate) fn take_line(&mut self, line: &Line, table: &mut [Wire]) -> Result<(), SheetFault>
-        ensures took { (t : Taken) (start : List WireType) → Tracks self.old table.old start t → Took result self.new table.new start (line_taken (length start) line.now.number t (line_bytes line.now)) }
+        ensures took { TakesAs (λ room t. line_taken room line.now.number t (line_bytes line.now)) self.old table.old result self.new table.new }
         ensures refused { OnErr result (table.new ≡ table.old) }
     {
         let entry = read_entry(line)?;

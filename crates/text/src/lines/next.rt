@@ -1,5 +1,7 @@
 // One line after another.
 ghost use Rattle.std.specs.Prelude.{◌≡◌, ◌+◌, [], ◌∷◌, IfSome, MatchOption};
+ghost use Rattle.std.specs.Iterator.{item_count};
+ghost use Rattle.text.specs.Iterators.{GivesLine};
 ghost use Rattle.text.specs.Views.{left, line_bytes};
 
 use super::Lines;
@@ -38,5 +40,18 @@ impl<'a> Lines<'a> {
             end,
             number,
         })
+    }
+}
+
+// `next_line` stays: its clauses say one thing each by name, and `next_gives` all in one relation.
+impl<'a> Iterator for Lines<'a> {
+    type Item = Line<'a>;
+
+    ghost next_gives = { GivesLine };
+
+    ghost remaining = { item_count left };
+
+    fn next(&mut self) -> Option<Line<'a>> {
+        self.next_line()
     }
 }

@@ -1,14 +1,16 @@
-use Rattle.std.proofs.Common.{arith, rules}
-use Rattle.std.proofs.lemmas.List.Sums.{common_prefix_len-drop_no, common_prefix_len-drop_yes}
-use Rattle.std.proofs.lemmas.Bool.{eq-eqb, ne_eqb}
-use Rattle.rows.proofs.Shared.{shared_end}
+use Rattle.std.proofs.Common.{◌∙◌, rules, tests}
+use Rattle.std.proofs.lemmas.Iterator.{YieldsList-from_slice, YieldsList-from_zip}
+use Rattle.std.proofs.lemmas.Iterator.Consumers.{count_from_yields_List}
+use Rattle.std.proofs.lemmas.Iterator.Search.{YieldsList-from_take_while}
+use Rattle.std.proofs.lemmas.List.Folds.{length-prefix_len}
+use Rattle.std.specs.List.{zip}
+use Rattle.rows.proofs.Shared.{both_equal, shared_zip}
 use Rattle.rows.proofs.calls.leading.Goals as goal
 
-pub returns-then-a-i : goal.returns-then-a-i
-returns-then-a-i c = record { value = search (rules, common_prefix_len-drop_no, ne_eqb); bound = search rules }
-
-pub loop-i-preserved : goal.loop-i-preserved
-loop-i-preserved c = search (rules, common_prefix_len-drop_yes, eq-eqb)
-
-pub returns : goal.returns
-returns c = record { value = omega (arith, shared_end c.args.a.now c.args.b.now c.loop-i.i (omega arith)); bound = search rules }
+pub returns-clause-value : goal.returns-clause-value
+returns-clause-value c =
+    let a = c.args.a.now in
+    let b = c.args.b.now in
+    count_from_yields_List c.take_while.result _ c.count.ensures.ran (YieldsList-from_take_while _ both_equal (YieldsList-from_zip (YieldsList-from_slice a cc) (YieldsList-from_slice b cc)) c.take_while.ensures.closure c.take_while.ensures.done (λ x b q k. search (rules, tests)))
+    ∙ length-prefix_len both_equal (zip a b)
+    ∙ shared_zip a b

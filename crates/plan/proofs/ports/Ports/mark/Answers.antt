@@ -4,6 +4,7 @@ use Rattle.plan.proofs.ports.Ports.mark.Goals as goal
 
 pub returns : goal.returns
 returns c before m =
+    let wide = c.self.invariant in
     simp (c.entry.ensures, c.entry-2.ensures)
-    (marks_more c.args.self.now.taken before c.args.wire
-    (omega (arith, c.args.self.now.wide)) (omega arith) (omega (arith, c.args.self.now.wide)) (omega arith) m)
+    (marks_more c.self.inside.taken before c.args.wire
+    (omega (arith, wide)) (omega arith) (omega (arith, wide)) (omega arith) (rw c.self.view_is m))
