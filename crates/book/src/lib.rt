@@ -27,7 +27,7 @@ pub trait Book {
     // Which list, if any, some bytes spell.
     ghost spelled: { List ℕ → Option (List ℕ) };
 
-    // The most bytes that a spelling has: the constant, as a call that was always there.
+    // The most bytes that a spelling has: the constant, as a call. It stays, as it is public.
     fn most() -> usize
         ensures { result ≡ WIDEST };
 

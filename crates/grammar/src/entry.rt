@@ -48,7 +48,7 @@ pub enum Entry {
     Wires(WireEntry),
 }
 
-// What a line with this first word is. No `TryFrom`: its error would hold no more than none does.
+// What a line with this first word is. No `TryFrom`: its error would say no more than `None`.
 fn line_head(word: Word) -> Option<Head>
     ensures { result ≡ head_of (keyword_bytes word.entry) }
 {

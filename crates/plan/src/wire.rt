@@ -72,24 +72,17 @@ impl End {
     pub fn at(count: u8, board: u16, port: u16, place: usize) -> Result<End, PlanFault>
         ensures { result ≡ end_at count board port place }
     {
-        match (u8::try_from(board), u8::try_from(port)) {
-            (Ok(board), Ok(port)) => End { board, port }.checked(count, place),
-            _ => Err(PlanFault::OutOfRange(place)),
+        let (Ok(board), Ok(port)) = (u8::try_from(board), u8::try_from(port)) else {
+            return Err(PlanFault::OutOfRange(place));
+        };
+        let end = End { board, port };
+        if !end.fits(count) {
+            return Err(PlanFault::OutOfRange(place));
         }
+        Ok(end)
     }
 
-    // The end itself, if it is at a board below `count` and a port below 8.
-    fn checked(self, count: u8, place: usize) -> Result<End, PlanFault>
-        ensures { result ≡ end_at count self.board self.port place }
-    {
-        if self.fits(count) {
-            Ok(self)
-        } else {
-            Err(PlanFault::OutOfRange(place))
-        }
-    }
-
-    // Whether it is at a board below `count` and a port below 8.
+    // Whether the end is at a board below `count` and a port below 8.
     pub(crate) fn fits(self, count: u8) -> bool
         ensures { result ≡ end_fits count self }
     {
