@@ -4,7 +4,7 @@ use Rattle.std.proofs.lemmas.Bool.{cases_Bool}
 use Rattle.std.proofs.lemmas.List.{drop_at, take_at}
 use Rattle.book.specs.Memory.{Written, headed, put_first}
 
-written_from : (widest : ℕ) (spelled : List ℕ → Option (List ℕ)) (list bytes before after : List ℕ) (n : ℕ)
+pub written_from : (widest : ℕ) (spelled : List ℕ → Option (List ℕ)) (list bytes before after : List ℕ) (n : ℕ)
     → n ≡ length bytes → after ≡ headed bytes before → spelled bytes ≡ Some list → length bytes ≤ widest
     → Written widest spelled (Some list) before after n
 written_from widest spelled list bytes before after n size exact spells fits = record {

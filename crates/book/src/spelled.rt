@@ -85,7 +85,10 @@ impl<S: Spelling> Book for SpelledBook<S> {
         ensures answer { result ≡ both_same (S.spelled bytes.now) (held self.now row) }
         ensures alike { (other : List ℕ) → S.Alike bytes.now other → result ≡ both_same (S.spelled other) (held self.now row) }
     {
-        S::read(bytes).is_some_and(|list| self.rows.has(row, &list))
+        let Some(list) = S::read(bytes) else {
+            return false;
+        };
+        self.rows.has(row, &list)
     }
 
     // No spelling of the row's list is shorter than the one that is written.

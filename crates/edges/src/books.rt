@@ -1,9 +1,10 @@
 // The edges of address books.
-use book::Book;
+use book::{Book, Spelling};
 use lists::ListFault;
-use path_book::PathBook;
+use path_book::{Path, PathBook};
 use rows::RowFault;
-use run_book::RunBook;
+use run_book::{RunBook, Runs};
+use std::alloc::AllocError;
 use std::process::Abort;
 
 // Gives row 0 the list 1 1 1 1.
@@ -62,4 +63,30 @@ fn a_refusal_says_why(rt: HostRuntime) {
         book.extend(0, 0, 8),
         Err(RowFault::InList(ListFault::Full))
     );
+}
+
+#[test]
+fn a_refusal_has_its_words(rt: HostRuntime) -> Result<(), AllocError> {
+    let words = [
+        (RowFault::NoRow, "the row is above 127"),
+        (RowFault::NoList, "the source row has no list"),
+        (RowFault::InList(ListFault::Full), "the list has 127 ports"),
+        (RowFault::InList(ListFault::NoPort), "the port is above 7"),
+    ];
+    for (fault, why) in words {
+        assert_eq!(rt; fault.to_string(rt.alloc())?.as_str(), why);
+    }
+    Ok(())
+}
+
+#[test]
+fn memory_as_long_as_the_widest_spelling_will_do(rt: HostRuntime) {
+    let mut path = PathBook::new();
+    four_ones(&rt, &mut path);
+    assert_eq!(rt; path.write(0, &mut [0; Path::WIDEST]), Some(4));
+    assert_eq!(rt; path.write(0, &mut [0; Path::WIDEST - 1]), None);
+    let mut run = RunBook::new();
+    four_ones(&rt, &mut run);
+    assert_eq!(rt; run.write(0, &mut [0; Runs::WIDEST]), Some(2));
+    assert_eq!(rt; run.write(0, &mut [0; Runs::WIDEST - 1]), None);
 }

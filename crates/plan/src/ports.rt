@@ -53,7 +53,8 @@ impl Ports {
     // From now on both ports of the wire have one.
     fn mark(&mut self, wire: Wire)
         requires { (wire.first.port < 8) × (wire.second.port < 8) }
-        ensures { (before : List WireType) → Marks self.old before → Marks self.new (before ++ wire ∷ []) }
+        ensures marks { (before : List WireType) → Marks self.old before → Marks self.new (before ++ wire ∷ []) }
+        ensures wide { length self.new ≡ 2048 }
     {
         self.taken[entry(wire.first)] = true;
         self.taken[entry(wire.second)] = true;
@@ -65,7 +66,10 @@ impl Ports {
     pub fn admit(&mut self, count: u8, wire: Wire, place: usize) -> Result<(), PlanFault>
         ensures answer { (before : List WireType) → Marks self.old before → result ≡ admitted count before wire place }
         ensures marks { MatchResult result (λ _. (before : List WireType) → Marks self.old before → Marks self.new (before ++ wire ∷ [])) (λ _. self.new ≡ self.old) }
+        ensures wide { (length self.old ≡ 2048) × (length self.new ≡ 2048) }
     {
+        // Looked at for the clause `wide`, as a model hides the length from callers.
+        let _ = &self.taken;
         if !wire.first.fits(count) || !wire.second.fits(count) {
             return Err(PlanFault::OutOfRange(place));
         }

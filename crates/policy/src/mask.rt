@@ -20,12 +20,12 @@ pub(crate) fn lowest_port(mask: u8) -> Option<u8>
 }
 
 // The lowest preferred port, or the lowest of the others if none is preferred.
+#[tactic(auto, using(crate::specs::Lows::lowest_or))]
 pub(crate) fn lowest_port_of(preferred: u8, others: u8) -> u8
     ensures { result ≡ lowest_of preferred others }
 {
-    lowest_port(preferred)
-        .or(lowest_port(others))
-        .unwrap_or(NONE_PERMITTED)
+    let ports = if preferred == 0 { others } else { preferred };
+    lowest_port(ports).unwrap_or(NONE_PERMITTED)
 }
 
 // The ports of the mask above this one.

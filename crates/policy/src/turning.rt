@@ -82,6 +82,7 @@ impl Policy for Turning {
     fn pick(&mut self, offer: Offer) -> u8
         ensures answer { (result, self.new) ≡ turning_rule self.old offer }
         ensures fair { offer.board < 128 → Fair turning_rule offer.board offer.permitted result self.new }
+        ensures wide { (length self.old ≡ 128) × (length self.new ≡ 128) }
     {
         self.turn(offer)
     }

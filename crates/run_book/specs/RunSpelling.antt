@@ -79,7 +79,7 @@ runs_begin list bytes e = rw e (ap fitting (nothing_in_front (expanded bytes)))
     nothing_in_front None = refl
 
 -- the two bytes at a place, and the bytes behind them
-next_pair : (bytes : List ℕ) (i : ℕ) → 2 * i + 1 < length bytes
+pub next_pair : (bytes : List ℕ) (i : ℕ) → 2 * i + 1 < length bytes
     → drop (2 * i) bytes ≡ slice_index bytes (2 * i) ∷ slice_index bytes (2 * i + 1) ∷ drop (2 * (i + 1)) bytes
 next_pair bytes i h =
     let a = drop_more bytes (2 * i) 0 (omega arith) in

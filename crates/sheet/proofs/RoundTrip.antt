@@ -196,7 +196,7 @@ round_trip room count wires g h =
     ∙ wires_took room 2 count [] wires c g.fits (omega arith)
 
 -- what an answer that follows the definition then is
-reads_back : (sheet : List ℕ) (before after : List Wire) (r : Result Counts SheetFault)
+pub reads_back : (sheet : List ℕ) (before after : List Wire) (r : Result Counts SheetFault)
     → r ≡ (sheet_read (length before) sheet).1 → after ≡ filled (sheet_read (length before) sheet).0.wires before
     → ReadsBack sheet before r after
 reads_back sheet before after r answer table count wires g h e =

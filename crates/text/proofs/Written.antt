@@ -10,7 +10,7 @@ use Rattle.text.specs.Text.{digit, lines, nonempty, numeral, onto, other, plain,
 use Rattle.text.specs.Writing.{digits, ended_lines, spaced}
 use Rattle.text.proofs.Splits.{split_none, split_at, split_on, onto_none, onto_piece, nonempty_piece}
 
-all_weaker : (p q : ℕ → Bool) → ((b : ℕ) → p b ≡ true → q b ≡ true) → (xs : List ℕ) → list_all p xs ≡ true → list_all q xs ≡ true
+pub all_weaker : (p q : ℕ → Bool) → ((b : ℕ) → p b ≡ true → q b ≡ true) → (xs : List ℕ) → list_all p xs ≡ true → list_all q xs ≡ true
 all_weaker p q f xs h =
     list_all-from_AllPass q xs (All-weaker (λ b. p b ≡ true) (λ b. q b ≡ true) f xs (AllPass-from_list_all p xs h))
 

@@ -55,9 +55,26 @@ fn push_memory(output: &mut String, memory: &[u8]) -> Result<(), AllocError> {
         None => 0,
     };
     for byte in memory.iter().take(touched) {
-        write!(output, ".{byte}")?;
+        output.push('.')?;
+        push_number(output, *byte)?;
     }
     Ok(())
+}
+
+// A number in decimal, digit by digit: `write!` for each byte of memory took more than twice the time.
+fn push_number(output: &mut String, number: u8) -> Result<(), AllocError> {
+    if number >= 100 {
+        output.push(digit(number / 100))?;
+    }
+    if number >= 10 {
+        output.push(digit(number / 10))?;
+    }
+    output.push(digit(number))
+}
+
+// The last digit of a number.
+fn digit(number: u8) -> char {
+    char::from(b'0' + number % 10)
 }
 
 fn push_yes(output: &mut String, yes: bool) -> Result<(), AllocError> {
