@@ -85,6 +85,7 @@ impl<S: Spelling> Book for SpelledBook<S> {
         ensures answer { result ≡ both_same (S.spelled bytes.now) (held self.now row) }
         ensures alike { (other : List ℕ) → S.Alike bytes.now other → result ≡ both_same (S.spelled other) (held self.now row) }
     {
+        // Not `is_some_and`, which copied the list.
         let Some(list) = S::read(bytes) else {
             return false;
         };

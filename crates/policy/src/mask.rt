@@ -24,6 +24,7 @@ pub(crate) fn lowest_port(mask: u8) -> Option<u8>
 pub(crate) fn lowest_port_of(preferred: u8, others: u8) -> u8
     ensures { result ≡ lowest_of preferred others }
 {
+    // Not `or`, which asked both masks each time.
     let ports = if preferred == 0 { others } else { preferred };
     lowest_port(ports).unwrap_or(NONE_PERMITTED)
 }

@@ -40,7 +40,7 @@ impl Turning {
     }
 
     // The last pick at the board; 7 for a board that has none.
-    fn last_at(&self, board: u8) -> u8
+    pub fn last_at(&self, board: u8) -> u8
         ensures value { result ≡ last_of self.now board }
         ensures wide { length self.now ≡ 128 }
     {

@@ -61,20 +61,20 @@ fn push_memory(output: &mut String, memory: &[u8]) -> Result<(), AllocError> {
     Ok(())
 }
 
-// A number in decimal, digit by digit: `write!` for each byte of memory took more than twice the time.
-fn push_number(output: &mut String, number: u8) -> Result<(), AllocError> {
-    if number >= 100 {
-        output.push(digit(number / 100))?;
+// A number in decimal, digit by digit: `write!` for each byte of memory took about twice the time.
+fn push_number(output: &mut String, n: u8) -> Result<(), AllocError> {
+    if n >= 100 {
+        output.push(digit(n / 100))?;
     }
-    if number >= 10 {
-        output.push(digit(number / 10))?;
+    if n >= 10 {
+        output.push(digit(n / 10))?;
     }
-    output.push(digit(number))
+    output.push(digit(n))
 }
 
 // The last digit of a number.
-fn digit(number: u8) -> char {
-    char::from(b'0' + number % 10)
+fn digit(n: u8) -> char {
+    char::from(b'0' + n % 10)
 }
 
 fn push_yes(output: &mut String, yes: bool) -> Result<(), AllocError> {
