@@ -1,5 +1,5 @@
 // Which ports already have a wire, so that each is given one at most.
-ghost use Rattle.std.specs.Prelude.{◌≡◌, ◌+◌, ◌*◌, ◌<◌, false, Bool, List, [], ◌∷◌, ◌++◌, length, replicate, MatchResult};
+ghost use Rattle.std.specs.Prelude.{◌≡◌, ◌+◌, ◌*◌, ◌<◌, ◌≤◌, false, Bool, List, [], ◌∷◌, ◌++◌, length, replicate, MatchResult};
 ghost use Rattle.plan.specs.Marks.{Marks, entry_of};
 ghost use Rattle.plan.specs.Plan.{admitted, taken};
 ghost use Rattle.plan.specs.declared.wire.Wire.{Wire as WireType};
@@ -42,12 +42,13 @@ impl Ports {
         }
     }
 
-    // Whether the port has a wire.
-    fn is_taken(&self, end: End) -> bool
-        requires { end.port < 8 }
-        ensures { (before : List WireType) → Marks self.now before → result ≡ taken before end }
+    // Whether the port has a wire; a port above 7 has none.
+    pub fn is_taken(&self, end: End) -> bool
+        ensures taken { (before : List WireType) → Marks self.now before → end.port < 8 → result ≡ taken before end }
+        ensures high { 8 ≤ end.port → result ≡ false }
+        ensures wide { length self.now ≡ 2048 }
     {
-        self.taken[entry(end)]
+        u16::from(end.port) < PORTS && self.taken[entry(end)]
     }
 
     // From now on both ports of the wire have one.
